@@ -1,0 +1,6 @@
+pub mod Tests
+pub mod Ranges
+pub mod Packing
+pub mod Days
+pub mod Order
+pub mod Instants

@@ -1,0 +1,17 @@
+use Rattle.moment.specs.Key.{inRange}
+use borrow.Author.Needs.{needs}
+use Rattle.moment.proofs.in_range.Statement.{statement}
+use Rattle.moment.proofs.in_range.Tie as tie
+
+moment-of-requires : tie.Need-moment-of-requires
+moment-of-requires c κs = search needs
+
+moment-exists-requires : tie.Need-moment-exists-requires
+moment-exists-requires c κs = search needs
+
+returns : tie.Need-returns
+unfolding inRange
+returns c = cc
+
+pub in-range-spec : {M : Type 1} → statement M
+in-range-spec = tie.close (tie.spec moment-of-requires moment-exists-requires returns)

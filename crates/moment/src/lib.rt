@@ -1,0 +1,140 @@
+// What a key is: the nine fields of a frame, legal by the Gregorian calendar, packed into one number from the top bit
+// down. Nothing here refuses by itself but `pack`, and every function answers for any numbers.
+ghost use mathlib.Core.Path.{_≡_};
+ghost use Rattle.moment.specs.Calendar.{leapOf, daysIn, dateExists, timeExists, momentExists};
+ghost use Rattle.moment.specs.Key.{keyLayout, listed, momentOf, inRange, keyOf, packs, packedSays, fieldsOf, legalOf};
+ghost use Rattle.layout.specs.Layout.{Fit};
+
+// The fields of a key, in the order in which they are packed.
+pub struct Fields {
+    pub year: u64,
+    pub month: u64,
+    pub day: u64,
+    pub hour: u64,
+    pub minute: u64,
+    pub second: u64,
+    pub hundredth: u64,
+    pub camera: u64,
+    pub number: u64,
+}
+
+// A moment: the date and time of day that a capture text says.
+pub struct Moment {
+    pub year: u64,
+    pub month: u64,
+    pub day: u64,
+    pub hour: u64,
+    pub minute: u64,
+    pub second: u64,
+}
+
+// What `pack` answers: the key, or a refusal with its number.
+pub enum Packed {
+    Key(u64),
+    Refused(u64),
+}
+
+// Is it a leap year?
+pub fn leap(year: u64) -> bool
+    ensures { λ r. ⌜ r ≡ leapOf year ⌝ }
+{
+    (year % 400 == 0) | ((year % 4 == 0) & (year % 100 != 0))
+}
+
+// The days of a month; a month that does not exist has none.
+pub fn days_in(year: u64, month: u64) -> u64
+    ensures { λ r. ⌜ r ≡ daysIn year month ⌝ }
+{
+    match month {
+        2 => { if leap(year) { 29 } else { 28 } }
+        4 | 6 | 9 | 11 => 30,
+        1..=12 => 31,
+        _ => 0,
+    }
+}
+
+// Is it a Gregorian date of the years 1990 to 2999?
+pub fn date_exists(year: u64, month: u64, day: u64) -> bool
+    ensures { λ r. ⌜ r ≡ dateExists year month day ⌝ }
+{
+    (1990 <= year) & (year <= 2999) & (1 <= day) & (day <= days_in(year, month))
+}
+
+// Is it a time of day?
+pub fn time_exists(hour: u64, minute: u64, second: u64) -> bool
+    ensures { λ r. ⌜ r ≡ timeExists hour minute second ⌝ }
+{
+    (hour <= 23) & (minute <= 59) & (second <= 59)
+}
+
+// Is it a date and a time of day?
+pub fn moment_exists(m: Moment) -> bool
+    ensures { λ r. ⌜ r ≡ momentExists m ⌝ }
+{
+    date_exists(m.year, m.month, m.day) & time_exists(m.hour, m.minute, m.second)
+}
+
+// The date and time of day of the fields.
+pub fn moment_of(f: Fields) -> Moment
+    ensures { λ r. ⌜ r ≡ momentOf f ⌝ }
+{
+    Moment {
+        year: f.year,
+        month: f.month,
+        day: f.day,
+        hour: f.hour,
+        minute: f.minute,
+        second: f.second,
+    }
+}
+
+// Are the fields those of a legal key?
+pub fn in_range(f: Fields) -> bool
+    ensures { λ r. ⌜ r ≡ inRange f ⌝ }
+{
+    moment_exists(moment_of(f)) & (f.hundredth <= 99) & (f.camera <= 31) & (f.number <= 9999)
+}
+
+// The fields put side by side, from the top bit down.
+fn joined(f: Fields) -> u64
+    requires { ⌜ Fit keyLayout (listed f) ⌝ }
+    ensures { λ r. ⌜ r ≡ keyOf f ⌝ }
+{
+    let date = (f.year * 16 + f.month) * 32 + f.day;
+    let time = ((date * 32 + f.hour) * 64 + f.minute) * 64 + f.second;
+    ((time * 128 + f.hundredth) * 32 + f.camera) * 16384 + f.number
+}
+
+// The key of the fields, or 3 where one is out of range.
+pub fn pack(f: Fields) -> Packed
+    ensures { λ r. ⌜ packedSays r ≡ packs f ⌝ }
+{
+    if !in_range(f) {
+        return Packed::Refused(3);
+    }
+    Packed::Key(joined(f))
+}
+
+// The fields of any key, legal or not.
+pub fn unpack(key: u64) -> Fields
+    ensures { λ r. ⌜ r ≡ fieldsOf key ⌝ }
+{
+    Fields {
+        year: key / 4503599627370496 % 4096,
+        month: key / 281474976710656 % 16,
+        day: key / 8796093022208 % 32,
+        hour: key / 274877906944 % 32,
+        minute: key / 4294967296 % 64,
+        second: key / 67108864 % 64,
+        hundredth: key / 524288 % 128,
+        camera: key / 16384 % 32,
+        number: key % 16384,
+    }
+}
+
+// Is the key legal?
+pub fn legal(key: u64) -> bool
+    ensures { λ r. ⌜ r ≡ legalOf key ⌝ }
+{
+    in_range(unpack(key))
+}

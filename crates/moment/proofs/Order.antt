@@ -11,7 +11,7 @@ use native.Mathlib.Nat.{mul-le-mul-right}
 use native.Mathlib.Decide.{decLt}
 use lib.Arith.{digits-div, digits-mod}
 use Rattle.moment.specs.Calendar.{daysIn}
-use Rattle.moment.specs.Key.{inRange, keyOf, fieldsOf, legalOf, momentOf}
+use Rattle.moment.specs.Key.{inRange, keyOfFields, fieldsOf, legalOf, momentOf}
 use Rattle.moment.specs.Instant.{dayNumber, instantOfFields, instantOf}
 use Rattle.moment.specs.declared.Fields.{Fields}
 use Rattle.moment.proofs.Ranges.{Ranges, ranges, month-of}
@@ -70,8 +70,8 @@ goes f g a b =
         rw (m .0, m .1, d .1) refl
 
 -- a key is its time, then camera, then file number
-split : (f : Fields) → keyOf f ≡ (timeBits f * 32 + f .camera) * 16384 + f .number
-unfolding keyOf
+split : (f : Fields) → keyOfFields f ≡ (timeBits f * 32 + f .camera) * 16384 + f .number
+unfolding keyOfFields
 split f = omega arith
 
 -- and so they compare as the instants do

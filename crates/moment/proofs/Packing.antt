@@ -12,7 +12,7 @@ use borrow.Author.Tests.{lt-ltb}
 use Rattle.layout.specs.Layout.{enc, dec}
 use Rattle.layout.proofs.LayoutLaws.{dec-enc, enc-dec, enc-lt}
 use Rattle.moment.specs.Said.{Said, gives, refuses}
-use Rattle.moment.specs.Key.{keyLayout, listed, inRange, keyOf, fieldsOf, legalOf, packs, packedSays}
+use Rattle.moment.specs.Key.{keyLayout, listed, inRange, keyOfFields, fieldsOf, legalOf, packs, packedSays}
 use Rattle.moment.specs.declared.Fields.{Fields}
 use Rattle.moment.specs.declared.Packed.{Packed}
 use Rattle.moment.specs.declared.Packed.the-variants.{Key, Refused}
@@ -35,17 +35,17 @@ unlisted l =
     }
 
 -- UNPACK AFTER PACK gives the fields
-pub unpack-pack : (f : Fields) → inRange f ≡ true → fieldsOf (keyOf f) ≡ f
-unfolding keyOf fieldsOf
+pub unpack-pack : (f : Fields) → inRange f ≡ true → fieldsOf (keyOfFields f) ≡ f
+unfolding keyOfFields fieldsOf
 unpack-pack f e = ap unlisted (dec-enc keyLayout (listed f) (fits f (ranges f e)))
 
-pub key-lt : (f : Fields) → inRange f ≡ true → keyOf f < 2 ^ 64
-unfolding keyOf
+pub key-lt : (f : Fields) → inRange f ≡ true → keyOfFields f < 2 ^ 64
+unfolding keyOfFields
 key-lt f e = enc-lt keyLayout (listed f) (fits f (ranges f e))
 
 -- PACK AFTER UNPACK gives the key, legal or not
-pub pack-unpack : (key : ℕ) → key < 2 ^ 64 → keyOf (fieldsOf key) ≡ key
-unfolding keyOf fieldsOf
+pub pack-unpack : (key : ℕ) → key < 2 ^ 64 → keyOfFields (fieldsOf key) ≡ key
+unfolding keyOfFields fieldsOf
 pack-unpack key h = enc-dec keyLayout key ∙ mod-eq-of-lt h
 
 -- a legal key has 64 bits, and fields in range
@@ -54,8 +54,8 @@ unfolding legalOf
 legal-is key = simp tests ((λ h. h), (λ h. h))
 
 -- what packing gives is a legal key
-pub packed-legal : (f : Fields) → inRange f ≡ true → legalOf (keyOf f) ≡ true
-packed-legal f e = legal-is (keyOf f) .1 (key-lt f e, ap inRange (unpack-pack f e) ∙ e)
+pub packed-legal : (f : Fields) → inRange f ≡ true → legalOf (keyOfFields f) ≡ true
+packed-legal f e = legal-is (keyOfFields f) .1 (key-lt f e, ap inRange (unpack-pack f e) ∙ e)
 
 -- A KEY IS LEGAL EXACTLY IF PACKING ITS FIELDS IS NOT REFUSED, and then that gives the key again
 pub legal-packs : (key : ℕ) → key < 2 ^ 64 → (legalOf key ≡ true) ↔ (packs (fieldsOf key) ≡ gives key)
@@ -74,13 +74,13 @@ unfolding packs legalOf
 not-legal-refused key h e = simp (rw (lt-ltb key (2 ^ 64) h) at e)
 
 -- TWO LEGAL SETS OF FIELDS WITH ONE KEY ARE ONE
-pub one-key : (f g : Fields) → inRange f ≡ true → inRange g ≡ true → keyOf f ≡ keyOf g → f ≡ g
+pub one-key : (f g : Fields) → inRange f ≡ true → inRange g ≡ true → keyOfFields f ≡ keyOfFields g → f ≡ g
 one-key f g a b e = sym (unpack-pack f a) ∙ ap fieldsOf e ∙ unpack-pack g b
 
 -- two legal keys with the same fields are one
 pub one-fields : (j k : ℕ) → legalOf j ≡ true → legalOf k ≡ true → fieldsOf j ≡ fieldsOf k → j ≡ k
 one-fields j k a b e =
-    sym (pack-unpack j (legal-is j .0 a .0)) ∙ ap keyOf e ∙ pack-unpack k (legal-is k .0 b .0)
+    sym (pack-unpack j (legal-is j .0 a .0)) ∙ ap keyOfFields e ∙ pack-unpack k (legal-is k .0 b .0)
 
 -- one outcome: two answers of `pack` that say the same are the same
 pub packed-one : (p q : Packed) → packedSays p ≡ packedSays q → p ≡ q

@@ -39,8 +39,8 @@ inRange f =
     momentExists (momentOf f) && leb (f .hundredth) 99 && leb (f .camera) 31 && leb (f .number) 9999
 
 -- the number that the fields are packed into
-unfoldable pub keyOf : Fields → ℕ
-keyOf f = enc keyLayout (listed f)
+unfoldable pub keyOfFields : Fields → ℕ
+keyOfFields f = enc keyLayout (listed f)
 
 -- the fields of a key
 unfoldable pub fieldsOf : ℕ → Fields
@@ -63,7 +63,7 @@ legalOf key = ltb key (2 ^ 64) && inRange (fieldsOf key)
 
 -- packing: the key, or 3 for fields out of range
 unfoldable pub packs : Fields → Said ℕ
-packs f = cond (inRange f) (gives (keyOf f)) (refuses 3)
+packs f = cond (inRange f) (gives (keyOfFields f)) (refuses 3)
 
 -- what `pack`'s answer says
 abbrev pub packedSays : Packed → Said ℕ

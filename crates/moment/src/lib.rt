@@ -2,7 +2,7 @@
 // down. Nothing here refuses by itself but `pack`, and every function answers for any numbers.
 ghost use mathlib.Core.Path.{_≡_};
 ghost use Rattle.moment.specs.Calendar.{leapOf, daysIn, dateExists, timeExists, momentExists};
-ghost use Rattle.moment.specs.Key.{keyLayout, listed, momentOf, inRange, keyOf, packs, packedSays, fieldsOf, legalOf};
+ghost use Rattle.moment.specs.Key.{keyLayout, listed, momentOf, inRange, keyOfFields, packs, packedSays, fieldsOf, legalOf};
 ghost use Rattle.layout.specs.Layout.{Fit};
 
 // The fields of a key, in the order in which they are packed.
@@ -98,7 +98,7 @@ pub fn in_range(f: Fields) -> bool
 // The fields put side by side, from the top bit down.
 fn joined(f: Fields) -> u64
     requires { ⌜ Fit keyLayout (listed f) ⌝ }
-    ensures { λ r. ⌜ r ≡ keyOf f ⌝ }
+    ensures { λ r. ⌜ r ≡ keyOfFields f ⌝ }
 {
     let date = (f.year * 16 + f.month) * 32 + f.day;
     let time = ((date * 32 + f.hour) * 64 + f.minute) * 64 + f.second;

@@ -1,5 +1,5 @@
 use native.Mathlib.Omega.{arith}
-use Rattle.moment.specs.Key.{keyOf}
+use Rattle.moment.specs.Key.{keyOfFields}
 use borrow.Author.Needs.{needs}
 use Rattle.moment.proofs.joined.Statement.{statement}
 use Rattle.moment.proofs.joined.Tie as tie
@@ -70,7 +70,7 @@ add-result-3 c = omega (arith, c .before .before .before .before .before .before
 
 -- src/lib.rt:74:1
 returns : tie.Need-returns
-unfolding keyOf
+unfolding keyOfFields
 returns c = omega (arith, c .before .before .before .before .before .before .before .before .before .pre)
 
 pub joined-spec : {M : Type 1} → statement M

@@ -1,0 +1,9 @@
+pub mod Digits
+pub mod Parts
+pub mod Shapes
+pub mod Reading
+pub mod Texts
+pub mod SubSeconds
+pub mod Keys
+pub mod Writing
+pub mod OneOutcome

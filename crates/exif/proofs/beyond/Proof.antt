@@ -1,0 +1,15 @@
+use borrow.Author.Tests.{lt-ltb, le-ltb}
+use Rattle.exif.specs.Parts.{beyondOf}
+use Rattle.exif.proofs.beyond.Statement.{statement}
+use Rattle.exif.proofs.beyond.Tie as tie
+
+returns : tie.Need-returns
+unfolding beyondOf
+returns c = simp (lt-ltb _ _ (c .if1 .taken))
+
+returns-2 : tie.Need-returns-2
+unfolding beyondOf
+returns-2 c = simp (le-ltb _ _ (c .if1 .left))
+
+pub beyond-spec : {M : Type 1} → statement M
+beyond-spec = tie.close (tie.spec returns returns-2)

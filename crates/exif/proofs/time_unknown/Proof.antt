@@ -1,0 +1,30 @@
+use Rattle.exif.specs.Reading.{unknownOf}
+use borrow.Author.Needs.{needs}
+use Rattle.exif.proofs.time_unknown.Statement.{statement}
+use Rattle.exif.proofs.time_unknown.Tie as tie
+
+slice-aggregate-has-form : tie.Need-slice-aggregate-has-form
+slice-aggregate-has-form c = search needs
+
+has-form-requires : tie.Need-has-form-requires
+has-form-requires c κs = search needs
+
+slice-aggregate-has-form-2 : tie.Need-slice-aggregate-has-form-2
+slice-aggregate-has-form-2 c = search needs
+
+has-form-requires-2 : tie.Need-has-form-requires-2
+has-form-requires-2 c κs = search needs
+
+returns : tie.Need-returns
+unfolding unknownOf
+returns c = simp (c .before .before .has-form .ensures, c .has-form2 .ensures)
+
+pub time-unknown-spec : {M : Type 1} → statement M
+time-unknown-spec =
+    tie.close
+    (tie.spec
+    slice-aggregate-has-form
+    has-form-requires
+    slice-aggregate-has-form-2
+    has-form-requires-2
+    returns)

@@ -1,0 +1,5 @@
+pub mod Forms
+pub mod Parts
+pub mod Reading
+pub mod SubSecond
+pub mod Writing

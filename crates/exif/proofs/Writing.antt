@@ -16,7 +16,7 @@ use Rattle.moment.proofs.Tests.{tests}
 use Rattle.exif.specs.Forms.{two, four, text, twoDigitHour, two-digits}
 use Rattle.exif.specs.Parts.{beyondOf}
 use Rattle.exif.specs.Reading.{readsText, reads}
-use Rattle.exif.specs.Writing.{put, writes, leaves, writtenSays}
+use Rattle.exif.specs.Writing.{putText, writes, leaves, writtenSays}
 use Rattle.exif.specs.declared.Written.{Written}
 use Rattle.exif.proofs.Parts.{within, beyond-iff, not-beyond}
 use Rattle.exif.proofs.Texts.{read-iff, within-read}
@@ -35,33 +35,33 @@ module _ (b : List ℕ) (place : ℕ) (t : List ℕ) (room : place + 20 ≤ leng
   front : length (take place b) ≡ place
   front = length-take-le place b (omega arith)
 
-  put-length : length (put b place t) ≡ length b
-  unfolding put
+  put-length : length (putText b place t) ≡ length b
+  unfolding putText
   put-length = simp (length-append, length-drop, front, n) (omega arith)
 
-  put-part : take 20 (drop place (put b place t)) ≡ t
-  unfolding put
+  put-part : take 20 (drop place (putText b place t)) ≡ t
+  unfolding putText
   put-part = rw (drop-at (take place b) (t ++ drop 20 (drop place b)) place front, take-at t (drop 20 (drop place b)) 20 n)
 
-  put-before : (i : ℕ) → i < place → getD (put b place t) i 0 ≡ getD b i 0
-  unfolding put
+  put-before : (i : ℕ) → i < place → getD (putText b place t) i 0 ≡ getD b i 0
+  unfolding putText
   put-before i h = List·getD-append (take place b) (t ++ drop 20 (drop place b)) 0 i (omega (arith, front)) ∙ getD-take place b i 0 h
 
-  put-after : (i : ℕ) → place + 20 ≤ i → getD (put b place t) i 0 ≡ getD b i 0
-  unfolding put
+  put-after : (i : ℕ) → place + 20 ≤ i → getD (putText b place t) i 0 ≡ getD b i 0
+  unfolding putText
   put-after i h =
       let k = i - place - 20 in
       let at-text : i ≡ length (take place b) + (length t + k) = omega (arith, front) in
       let at-rest : place + (20 + k) ≡ i = omega arith in
       let e = getD-append-add (take place b) (t ++ drop 20 (drop place b)) (length t + k) 0 in
       let f = getD-append-add t (drop 20 (drop place b)) k 0 in
-      ap (λ j. getD (put b place t) j 0) at-text ∙ e ∙ f ∙ getD-drop 20 (drop place b) k 0 ∙ getD-drop place b (20 + k) 0 ∙ ap (λ j. getD b j 0) at-rest
+      ap (λ j. getD (putText b place t) j 0) at-text ∙ e ∙ f ∙ getD-drop 20 (drop place b) k 0 ∙ getD-drop place b (20 + k) 0 ∙ ap (λ j. getD b j 0) at-rest
 
 -- a write that is not refused
 record Wrote (buffer : List ℕ) (place key : ℕ) (after : List ℕ) : Type 0 where
   legal : legalOf key ≡ true
   room : place + 20 ≤ length buffer
-  is : after ≡ put buffer place (keyText key)
+  is : after ≡ putText buffer place (keyText key)
 
 module _ (buffer : List ℕ) (place key : ℕ) where
   -- what each answer tells, by the two tests
@@ -104,7 +104,7 @@ module _ (buffer : List ℕ) (place key : ℕ) where
   )
 
   pub written : legalOf key ≡ true → place + 20 ≤ length buffer
-      → writes buffer place key ≡ gives (put buffer place (twoDigitHour (momentOf (fieldsOf key))))
+      → writes buffer place key ≡ gives (putText buffer place (twoDigitHour (momentOf (fieldsOf key))))
   unfolding writes
   written legal room = simp (legal, not-beyond (length buffer) place 20 room)
 

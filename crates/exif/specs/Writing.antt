@@ -12,14 +12,14 @@ use Rattle.exif.specs.declared.Written.{Written}
 use Rattle.exif.specs.declared.Written.the-variants.{Done, Refused}
 
 -- the buffer with a text of 20 bytes at a place, all else as it was
-unfoldable pub put : List ℕ → ℕ → List ℕ → List ℕ
-put buffer place text = take place buffer ++ (text ++ drop 20 (drop place buffer))
+unfoldable pub putText : List ℕ → ℕ → List ℕ → List ℕ
+putText buffer place text = take place buffer ++ (text ++ drop 20 (drop place buffer))
 
 -- the buffer with the two-digit form of the key's date and time at the place; 3, then 11
 unfoldable pub writes : List ℕ → ℕ → ℕ → Said (List ℕ)
 writes buffer place key =
     cond (legalOf key)
-    (cond (beyondOf (length buffer) place 20) (refuses 11) (gives (put buffer place (twoDigitHour (momentOf (fieldsOf key))))))
+    (cond (beyondOf (length buffer) place 20) (refuses 11) (gives (putText buffer place (twoDigitHour (momentOf (fieldsOf key))))))
     (refuses 3)
 
 -- what a buffer holds after the call: a refusal leaves it as it was

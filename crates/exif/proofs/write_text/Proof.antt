@@ -2,7 +2,7 @@ use native.Mathlib.Omega.{arith}
 use Prim.Native.Nat.{_+_, _-_}
 use mathlib.Core.Path.{_≡_, sym, _∙_}
 use borrow.Author.Tests.{not-true, not-false}
-use Rattle.exif.specs.Writing.{writes, put}
+use Rattle.exif.specs.Writing.{writes, putText}
 use Rattle.exif.proofs.Parts.{within}
 use borrow.Author.Needs.{needs}
 use Rattle.exif.proofs.write_text.Statement.{statement}
@@ -55,7 +55,7 @@ same-length : tie.Need-same-length
 same-length c = search needs
 
 returns-3 : tie.Need-returns-3
-unfolding writes put
+unfolding writes putText
 returns-3 c =
     let f = c .before .before in
     let p = f .before .before .before .before in

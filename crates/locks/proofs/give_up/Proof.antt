@@ -1,0 +1,32 @@
+use mathlib.Core.Path.{sym, _∙_}
+use Rattle.protocol.specs.Locks.{giveUp}
+use borrow.Author.Needs.{needs}
+use Rattle.locks.proofs.give_up.Statement.{statement}
+use Rattle.locks.proofs.give_up.Tie as tie
+
+all-held-requires : tie.Need-all-held-requires
+all-held-requires c κs = search needs
+
+release-all-requires : tie.Need-release-all-requires
+release-all-requires c κs = search needs
+
+same-length : tie.Need-same-length
+same-length c = search needs
+
+returns : tie.Need-returns
+unfolding giveUp
+returns c = let p = sym (c .before .before .before .before .before .all-held .ensures) ∙ c .before .before .before .before .if1 .taken in
+    (simp p, simp p (c .before .before .release-all .ensures))
+
+same-length-2 : tie.Need-same-length-2
+same-length-2 c = search needs
+
+returns-2 : tie.Need-returns-2
+unfolding giveUp
+returns-2 c = let p = sym (c .before .all-held .ensures) ∙ c .if1 .left in
+    (simp p, simp p)
+
+pub give-up-spec : {M : Type 1} → statement M
+give-up-spec =
+    tie.close
+    (tie.spec all-held-requires release-all-requires same-length returns same-length-2 returns-2)

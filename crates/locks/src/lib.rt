@@ -1,0 +1,179 @@
+// Locks and seats: taking a lock, giving up all locks held, taking and leaving a seat. Each function takes any words and
+// any phase, and promises the protocol's definition.
+ghost use mathlib.Core.Path.{_≡_};
+ghost use Prim.Native.Nat.{ℕ, _-_};
+ghost use Rattle.protocol.specs.Locks.{stateFits, linksFit, clear, holds, weight, crowded, granted, heldOne, releaseOne, allHeld, released, giveUp, lockStep};
+ghost use Rattle.protocol.specs.Step.{leave};
+ghost use Rattle.protocol.specs.Calls.{seated};
+use plan::PRESENT;
+use protocol::Action;
+use protocol::Links;
+use protocol::Outcome;
+use protocol::Phase;
+use table::DELETED;
+use table::Which;
+
+fn state_fits(want: u64, s: u64) -> bool
+    ensures { λ r. ⌜ r ≡ stateFits want s ⌝ }
+{
+    if want == PRESENT {
+        s != DELETED
+    } else {
+        s == want
+    }
+}
+
+fn links_fit(words: &[u64], slot: u64, links: Links) -> bool
+    ensures { λ r. ⌜ r ≡ linksFit (now (words .entry)) slot links ⌝ }
+{
+    match links {
+        Links::Any => true,
+        Links::Is(side, child) => table::link(words, slot, side) == child,
+        Links::Neither => (table::link(words, slot, true) == 0)
+            & (table::link(words, slot, false) == 0),
+        Links::Both => (table::link(words, slot, true) != 0)
+            & (table::link(words, slot, false) != 0),
+    }
+}
+
+// No lock conflicts: a writer does with all, a reader with a writer.
+fn is_clear(write: bool, x: u64) -> bool
+    ensures { λ r. ⌜ r ≡ clear write x ⌝ }
+{
+    if write { x == 0 } else { x != 1 }
+}
+
+fn is_held(write: bool, x: u64) -> bool
+    ensures { λ r. ⌜ r ≡ holds write x ⌝ }
+{
+    if write { x == 1 } else { 2 <= x }
+}
+
+fn weight_of(write: bool) -> u64
+    ensures { λ r. ⌜ r ≡ weight write ⌝ }
+{
+    if write { 1 } else { 2 }
+}
+
+fn is_crowded(write: bool, x: u64) -> bool
+    ensures { λ r. ⌜ r ≡ crowded write x ⌝ }
+{
+    !write & (32 <= x)
+}
+
+fn less(a: u64, b: u64) -> u64
+    ensures { λ r. ⌜ r ≡ a - b ⌝ }
+{
+    if a < b { 0 } else { a - b }
+}
+
+fn is_granted(words: &[u64], slot: u64, which: Which, write: bool, state: u64, links: Links) -> bool
+    ensures { λ r. ⌜ r ≡ granted (now (words .entry)) slot which write state links ⌝ }
+{
+    let s = table::state(words, slot);
+    let x = table::lock(words, slot, which);
+    state_fits(state, s) & links_fit(words, slot, links) & is_clear(write, x)
+}
+
+fn held_one(words: &[u64], a: Action) -> bool
+    ensures { λ r. ⌜ r ≡ heldOne (now (words .entry)) a ⌝ }
+{
+    match a {
+        Action::Lock(slot, which, write, _, _) => {
+            let x = table::lock(words, slot, which);
+            table::pair_fine(words, slot) & is_held(write, x)
+        }
+        _ => true,
+    }
+}
+
+fn release_one(words: &mut [u64], a: Action)
+    ensures { λ _. ⌜ now (words .exit) ≡ releaseOne (now (words .entry)) a ⌝ }
+{
+    match a {
+        Action::Lock(slot, which, write, _, _) => {
+            let x = table::lock(words, slot, which);
+            let y = less(x, weight_of(write));
+            table::set_lock(words, slot, which, y);
+        }
+        _ => {}
+    }
+}
+
+// Are the locks of the first `done` actions held, in pairs that are fine?
+pub fn all_held(words: &[u64], phase: Phase, done: u64) -> bool
+    ensures { λ r. ⌜ r ≡ allHeld (now (words .entry)) phase done ⌝ }
+{
+    let mut ok = true;
+    let mut i: u64 = 0;
+    while i < done {
+        let a = plan::action_at(phase, i);
+        ok = ok & held_one(words, a);
+        i += 1;
+    }
+    ok
+}
+
+pub fn release_all(words: &mut [u64], phase: Phase, done: u64)
+    ensures { λ _. ⌜ now (words .exit) ≡ released (now (words .entry)) phase done ⌝ }
+{
+    let mut i: u64 = 0;
+    while i < done {
+        let a = plan::action_at(phase, i);
+        release_one(words, a);
+        i += 1;
+    }
+}
+
+// All locks held are judged, then all are given up.
+pub fn give_up(words: &mut [u64], phase: Phase, done: u64, then: Outcome) -> Outcome
+    ensures { λ r. ⌜ (r ≡ giveUp (now (words .entry)) phase done then .said) × (now (words .exit) ≡ giveUp (now (words .entry)) phase done then .words) ⌝ }
+{
+    if all_held(words, phase, done) {
+        release_all(words, phase, done);
+        then
+    } else {
+        Outcome::Refuses(6)
+    }
+}
+
+pub fn lock_step(
+    words: &mut [u64],
+    phase: Phase,
+    done: u64,
+    next: Phase,
+    slot: u64,
+    which: Which,
+    write: bool,
+    state: u64,
+    links: Links,
+) -> Outcome
+    ensures { λ r. ⌜ (r ≡ lockStep (now (words .entry)) phase done next slot which write state links .said) × (now (words .exit) ≡ lockStep (now (words .entry)) phase done next slot which write state links .words) ⌝ }
+{
+    if !is_granted(words, slot, which, write, state, links) {
+        return give_up(words, phase, done, Outcome::Goes(plan::at_root()));
+    }
+    let x = table::lock(words, slot, which);
+    if is_crowded(write, x) {
+        return Outcome::Refuses(9);
+    }
+    let y = x + weight_of(write);
+    table::set_lock(words, slot, which, y);
+    Outcome::Goes(next)
+}
+
+pub fn leave_seat(words: &mut [u64])
+    ensures { λ _. ⌜ now (words .exit) ≡ leave (now (words .entry)) ⌝ }
+{
+    let b = table::busy(words);
+    let c = less(b, 1);
+    table::set_busy(words, c);
+}
+
+pub fn take_seat(words: &mut [u64])
+    ensures { λ _. ⌜ now (words .exit) ≡ seated (now (words .entry)) ⌝ }
+{
+    let b = table::busy(words);
+    let c = b + 1;
+    table::set_busy(words, c);
+}

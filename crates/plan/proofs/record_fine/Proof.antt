@@ -1,0 +1,24 @@
+use Rattle.protocol.specs.Record.{recordFine}
+use borrow.Author.Needs.{needs}
+use Rattle.plan.proofs.record_fine.Statement.{statement}
+use Rattle.plan.proofs.record_fine.Tie as tie
+
+slots-requires : tie.Need-slots-requires
+slots-requires c κs = search needs
+
+legal-requires : tie.Need-legal-requires
+legal-requires c κs = search needs
+
+roles-fine-requires : tie.Need-roles-fine-requires
+roles-fine-requires c κs = search needs
+
+busy-requires : tie.Need-busy-requires
+busy-requires c κs = search needs
+
+returns : tie.Need-returns
+unfolding recordFine
+returns c = cc
+
+pub record-fine-spec : {M : Type 1} → statement M
+record-fine-spec =
+    tie.close (tie.spec slots-requires legal-requires roles-fine-requires busy-requires returns)

@@ -1,0 +1,10 @@
+pub mod PlanLaws
+pub mod LockLaws
+pub mod Ends
+pub mod AnswerLaws
+pub mod StepLaws
+pub mod CallLaws
+pub mod HeldLaws
+pub mod StoreLaws
+pub mod ChangeLaws
+pub mod Mistakes

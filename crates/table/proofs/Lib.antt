@@ -1,0 +1,3 @@
+pub mod PairLaws
+pub mod ChangeLaws
+pub mod FreshLaws

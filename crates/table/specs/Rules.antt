@@ -1,0 +1,64 @@
+-- Document 01's rules: what a lock may be, the bit rules of a pair, the root's rule, rule 1; and the fresh table.
+-- Assumes nothing.
+use mathlib.Core.Bool.{Bool, true, false, cond, not, _&&_, _||_}
+use mathlib.Core.List.{List}
+use Prim.Native.Nat.{ℕ, _%_}
+use lib.Dec.{leb, ltb, eqb}
+use lib.ListN.{length, replicate}
+use Rattle.moment.specs.Said.{Said, gives, refuses}
+use Rattle.table.specs.Pair.{free, asData, slotsOf, fieldOf, zerosF, busyF, keyOf, stateOf, linkOf, lockOf, busyOf, setKey, setState}
+use Rattle.table.specs.declared.Which.the-variants.{State, Edge}
+use Rattle.table.specs.declared.Reply.{Reply}
+use Rattle.table.specs.declared.Reply.the-variants.{Done, Refusal}
+
+-- a lock is 0 when free, 1 when written, else twice its readers, at most 32
+unfoldable pub lockFine : ℕ → Bool
+lockFine x = eqb x 1 || (eqb (x % 2) 0 && leb x 32)
+
+-- no link beyond the table, each lock fine, all other bits zero; the busy count is the root's alone
+unfoldable pub bitsFine : List ℕ → ℕ → Bool
+bitsFine ws i =
+    ltb (linkOf ws i true) (slotsOf ws) && ltb (linkOf ws i false) (slotsOf ws)
+    && lockFine (lockOf ws i State) && lockFine (lockOf ws i (Edge true)) && lockFine (lockOf ws i (Edge false))
+    && (eqb i 0 || eqb (fieldOf busyF ws i) 0) && eqb (fieldOf zerosF ws i) 0
+
+-- a pair that a step may read, store to or unlock: not free, and the bit rules
+unfoldable pub pairFine : List ℕ → ℕ → Bool
+pairFine ws i = not (eqb (stateOf ws i) free) && bitsFine ws i
+
+-- the root's key
+abbrev pub allOnes : ℕ
+allOnes = 18446744073709551615
+
+-- the root: an all-ones key, state data, no right child, the bit rules, at most 16 busy
+unfoldable pub rootFine : List ℕ → Bool
+rootFine ws =
+    eqb (keyOf ws 0) allOnes && eqb (stateOf ws 0) asData && eqb (linkOf ws 0 false) 0
+    && bitsFine ws 0 && leb (busyOf ws) 16
+
+-- the fewest and the most words of a table
+abbrev pub fewestWords : ℕ
+fewestWords = 4
+
+abbrev pub mostWords : ℕ
+mostWords = 2048
+
+-- neither odd, nor under the fewest, nor over the most
+unfoldable pub sizeFine : ℕ → Bool
+sizeFine n = eqb (n % 2) 0 && leb fewestWords n && leb n mostWords
+
+-- no refusal 1
+unfoldable pub tableFine : List ℕ → Bool
+tableFine ws = sizeFine (length ws) && rootFine ws
+
+-- what the answer of start, withdraw, fresh and sweep says: done, or a refusal by its number
+abbrev pub replySays : Reply → Said (Unit {0})
+replySays Done = gives tt
+replySays (Refusal n) = refuses n
+
+-- a fresh table has this root with the rest zero, whatever it held; or 1, and nothing changes
+unfoldable pub freshSays : List ℕ → Said (Unit {0})
+freshSays ws = cond (sizeFine (length ws)) (gives tt) (refuses 1)
+
+unfoldable pub freshWords : List ℕ → List ℕ
+freshWords ws = cond (sizeFine (length ws)) (setState (setKey (replicate (length ws) 0) 0 allOnes) 0 asData) ws

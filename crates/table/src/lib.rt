@@ -1,0 +1,298 @@
+// The lent words: the fields of a pair by their place in one layout, the rules of a pair and of the root, and `fresh`.
+// Every function takes any words, any slot and any value: what lies beyond the table reads as 0 and is not stored.
+ghost use mathlib.Core.Path.{_≡_};
+ghost use Prim.Native.Nat.{ℕ, _+_, _^_, _<_, _≤_};
+ghost use lib.ListN.{length, replicate};
+ghost use Rattle.layout.specs.Word.{get, put};
+ghost use Rattle.table.specs.Pair.{slotsOf, wordOf, setWord, fieldOf, setField, keyOf, setKey, linkF, lockF, stateOf, linkOf, lockOf, busyOf, setState, setLink, setLock, setBusy, zeroPair};
+ghost use Rattle.table.specs.Rules.{lockFine, bitsFine, pairFine, rootFine, sizeFine, tableFine, replySays, freshSays, freshWords};
+
+// Which of a pair's locks: of its state, or of the edge on a side (true: left).
+pub enum Which {
+    State,
+    Edge(bool),
+}
+
+// What start, withdraw, fresh and sweep answer.
+pub enum Reply {
+    Done,
+    Refusal(u64),
+}
+
+// The states.
+pub const FREE: u64 = 0;
+
+pub const DATA: u64 = 1;
+
+pub const ROUTING: u64 = 2;
+
+pub const DELETED: u64 = 3;
+
+// The layout of a slot's second word: where each field begins, how wide it is, and the first value that it cannot hold.
+const POS: [u64; 8] = [62, 52, 42, 36, 30, 24, 19, 0];
+
+const WID: [u64; 8] = [2, 10, 10, 6, 6, 6, 5, 19];
+
+const SIZE: [u64; 8] = [4, 1024, 1024, 64, 64, 64, 32, 524288];
+
+const FIELDS: u64 = 8;
+
+const STATE: u64 = 0;
+
+const BUSY: u64 = 6;
+
+const ZEROS: u64 = 7;
+
+// The words that a slot has, and the fewest and the most that a table has.
+const WORDS: u64 = 2;
+
+const FEWEST: u64 = 4;
+
+const MOST: u64 = 2048;
+
+// The root's key.
+const ALL_ONES: u64 = 18446744073709551615;
+
+// The field of w bits at p.
+fn bits(x: u64, p: u64, w: u64) -> u64
+    requires { ⌜ (p < 64) × (w < 64) ⌝ }
+    ensures { λ r. ⌜ r ≡ get p w x ⌝ }
+{
+    (x >> p) % (1 << w)
+}
+
+// The word with that field replaced.
+fn with_bits(x: u64, p: u64, w: u64, v: u64) -> u64
+    requires { ⌜ (p < 64) × (w < 64) × (p + w ≤ 64) × (v < 2 ^ w) ⌝ }
+    ensures { λ r. ⌜ r ≡ put p w x v ⌝ }
+{
+    x - (bits(x, p, w) << p) + (v << p)
+}
+
+// How many slots the words make.
+pub fn slots(t: &[u64]) -> u64
+    ensures { λ r. ⌜ r ≡ slotsOf (now (t .entry)) ⌝ }
+{
+    t.len() as u64 / WORDS
+}
+
+fn word(t: &[u64], i: u64, k: u64) -> u64
+    requires { ⌜ k < 2 ⌝ }
+    ensures { λ r. ⌜ r ≡ wordOf (now (t .entry)) i k ⌝ }
+{
+    let n = t.len() as u64;
+    if n <= i {
+        return 0;
+    }
+    let j = WORDS * i + k;
+    if n <= j {
+        return 0;
+    }
+    let at = j as usize;
+    t[at]
+}
+
+fn set_word(t: &mut [u64], i: u64, k: u64, v: u64)
+    requires { ⌜ k < 2 ⌝ }
+    ensures { λ _. ⌜ now (t .exit) ≡ setWord (now (t .entry)) i k v ⌝ }
+{
+    let n = t.len() as u64;
+    if n <= i {
+        return;
+    }
+    let j = WORDS * i + k;
+    if n <= j {
+        return;
+    }
+    let at = j as usize;
+    t[at] = v;
+}
+
+fn field(t: &[u64], i: u64, f: u64) -> u64
+    ensures { λ r. ⌜ r ≡ fieldOf f (now (t .entry)) i ⌝ }
+{
+    if FIELDS <= f {
+        return 0;
+    }
+    let g = f as usize;
+    let p = POS[g];
+    let w = WID[g];
+    bits(word(t, i, 1), p, w)
+}
+
+fn set_field(t: &mut [u64], i: u64, f: u64, v: u64)
+    ensures { λ _. ⌜ now (t .exit) ≡ setField f (now (t .entry)) i v ⌝ }
+{
+    if FIELDS <= f {
+        return;
+    }
+    let g = f as usize;
+    let s = SIZE[g];
+    if s <= v {
+        return;
+    }
+    let p = POS[g];
+    let w = WID[g];
+    let x = with_bits(word(t, i, 1), p, w, v);
+    set_word(t, i, 1, x);
+}
+
+fn link_field(side: bool) -> u64
+    ensures { λ r. ⌜ r ≡ linkF side ⌝ }
+{
+    if side { 1 } else { 2 }
+}
+
+fn lock_field(which: Which) -> u64
+    ensures { λ r. ⌜ r ≡ lockF which ⌝ }
+{
+    match which {
+        Which::State => 3,
+        Which::Edge(side) => { if side { 4 } else { 5 } }
+    }
+}
+
+pub fn key(t: &[u64], i: u64) -> u64
+    ensures { λ r. ⌜ r ≡ keyOf (now (t .entry)) i ⌝ }
+{
+    word(t, i, 0)
+}
+
+pub fn state(t: &[u64], i: u64) -> u64
+    ensures { λ r. ⌜ r ≡ stateOf (now (t .entry)) i ⌝ }
+{
+    field(t, i, STATE)
+}
+
+pub fn link(t: &[u64], i: u64, side: bool) -> u64
+    ensures { λ r. ⌜ r ≡ linkOf (now (t .entry)) i side ⌝ }
+{
+    field(t, i, link_field(side))
+}
+
+pub fn lock(t: &[u64], i: u64, which: Which) -> u64
+    ensures { λ r. ⌜ r ≡ lockOf (now (t .entry)) i which ⌝ }
+{
+    field(t, i, lock_field(which))
+}
+
+// How many workers are busy.
+pub fn busy(t: &[u64]) -> u64
+    ensures { λ r. ⌜ r ≡ busyOf (now (t .entry)) ⌝ }
+{
+    field(t, 0, BUSY)
+}
+
+pub fn set_key(t: &mut [u64], i: u64, k: u64)
+    ensures { λ _. ⌜ now (t .exit) ≡ setKey (now (t .entry)) i k ⌝ }
+{
+    set_word(t, i, 0, k);
+}
+
+pub fn set_state(t: &mut [u64], i: u64, s: u64)
+    ensures { λ _. ⌜ now (t .exit) ≡ setState (now (t .entry)) i s ⌝ }
+{
+    set_field(t, i, STATE, s);
+}
+
+pub fn set_link(t: &mut [u64], i: u64, side: bool, c: u64)
+    ensures { λ _. ⌜ now (t .exit) ≡ setLink (now (t .entry)) i side c ⌝ }
+{
+    let f = link_field(side);
+    set_field(t, i, f, c);
+}
+
+pub fn set_lock(t: &mut [u64], i: u64, which: Which, x: u64)
+    ensures { λ _. ⌜ now (t .exit) ≡ setLock (now (t .entry)) i which x ⌝ }
+{
+    let f = lock_field(which);
+    set_field(t, i, f, x);
+}
+
+pub fn set_busy(t: &mut [u64], n: u64)
+    ensures { λ _. ⌜ now (t .exit) ≡ setBusy (now (t .entry)) n ⌝ }
+{
+    set_field(t, 0, BUSY, n);
+}
+
+// Are all words of the slot zero?
+pub fn zero_pair(t: &[u64], i: u64) -> bool
+    ensures { λ r. ⌜ r ≡ zeroPair (now (t .entry)) i ⌝ }
+{
+    (word(t, i, 0) == 0) & (word(t, i, 1) == 0)
+}
+
+fn lock_fine(x: u64) -> bool
+    ensures { λ r. ⌜ r ≡ lockFine x ⌝ }
+{
+    (x == 1) | ((x % 2 == 0) & (x <= 32))
+}
+
+pub fn bits_fine(t: &[u64], i: u64) -> bool
+    ensures { λ r. ⌜ r ≡ bitsFine (now (t .entry)) i ⌝ }
+{
+    let n = slots(t);
+    (link(t, i, true) < n)
+        & (link(t, i, false) < n)
+        & lock_fine(lock(t, i, Which::State))
+        & lock_fine(lock(t, i, Which::Edge(true)))
+        & lock_fine(lock(t, i, Which::Edge(false)))
+        & ((i == 0) | (field(t, i, BUSY) == 0))
+        & (field(t, i, ZEROS) == 0)
+}
+
+// May a step read, store to or unlock this pair?
+pub fn pair_fine(t: &[u64], i: u64) -> bool
+    ensures { λ r. ⌜ r ≡ pairFine (now (t .entry)) i ⌝ }
+{
+    (state(t, i) != FREE) & bits_fine(t, i)
+}
+
+fn root_fine(t: &[u64]) -> bool
+    ensures { λ r. ⌜ r ≡ rootFine (now (t .entry)) ⌝ }
+{
+    (key(t, 0) == ALL_ONES)
+        & (state(t, 0) == DATA)
+        & (link(t, 0, false) == 0)
+        & bits_fine(t, 0)
+        & (busy(t) <= 16)
+}
+
+fn size_fine(n: u64) -> bool
+    ensures { λ r. ⌜ r ≡ sizeFine n ⌝ }
+{
+    (n % WORDS == 0) & (FEWEST <= n) & (n <= MOST)
+}
+
+// Rule 1.
+pub fn table_fine(t: &[u64]) -> bool
+    ensures { λ r. ⌜ r ≡ tableFine (now (t .entry)) ⌝ }
+{
+    let n = t.len() as u64;
+    size_fine(n) & root_fine(t)
+}
+
+fn clear(t: &mut [u64])
+    ensures { λ _. ⌜ now (t .exit) ≡ replicate (length (now (t .entry))) 0 ⌝ }
+{
+    let n = t.len();
+    let mut i: usize = 0;
+    while i < n {
+        t[i] = 0;
+        i += 1;
+    }
+}
+
+// The root with the rest zero, whatever the table held; or 1.
+pub fn fresh(t: &mut [u64]) -> Reply
+    ensures { λ r. ⌜ (replySays r ≡ freshSays (now (t .entry))) × (now (t .exit) ≡ freshWords (now (t .entry))) ⌝ }
+{
+    let n = t.len() as u64;
+    if !size_fine(n) {
+        return Reply::Refusal(1);
+    }
+    clear(t);
+    set_key(t, 0, ALL_ONES);
+    set_state(t, 0, DATA);
+    Reply::Done
+}

@@ -1,0 +1,6 @@
+pub mod Reach
+pub mod Sound
+pub mod Walk
+pub mod Judge
+pub mod Answers
+pub mod Places

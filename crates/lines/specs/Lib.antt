@@ -1,0 +1,4 @@
+pub mod Line
+pub mod Feeding
+pub mod Ends
+pub mod Printing

@@ -8,3 +8,5 @@ pub mod HeldLaws
 pub mod StoreLaws
 pub mod ChangeLaws
 pub mod Mistakes
+pub mod Paths
+pub mod Words

@@ -4,3 +4,4 @@ pub mod Packing
 pub mod Days
 pub mod Order
 pub mod Instants
+pub mod OneOutcome

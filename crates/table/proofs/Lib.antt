@@ -1,3 +1,4 @@
 pub mod PairLaws
 pub mod ChangeLaws
 pub mod FreshLaws
+pub mod OneOutcome

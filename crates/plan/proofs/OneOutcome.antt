@@ -1,0 +1,34 @@
+-- For every input each promise leaves one answer: any two that it allows are equal.
+-- Assumes nothing.
+use mathlib.Core.Path.{_≡_, sym, _∙_}
+use mathlib.Core.Bool.{Bool}
+use mathlib.Core.List.{List}
+use Prim.Native.Nat.{ℕ}
+use Rattle.protocol.specs.Plan.{actionAt, atRoot, doneOf, withDone}
+use Rattle.protocol.specs.Record.{recordFine}
+use Rattle.protocol.specs.Calls.{stored, idle}
+use Rattle.protocol.specs.declared.Kind.{Kind}
+use Rattle.protocol.specs.declared.Work.{Work}
+use Rattle.protocol.specs.declared.Phase.{Phase}
+use Rattle.protocol.specs.declared.Action.{Action}
+
+pub action-at-one : (phase : Phase) (i : ℕ) (a b : Action) → a ≡ actionAt phase i → b ≡ actionAt phase i → a ≡ b
+action-at-one phase i a b p q = p ∙ sym q
+
+pub at-root-one : (a b : Phase) → a ≡ atRoot → b ≡ atRoot → a ≡ b
+at-root-one a b p q = p ∙ sym q
+
+pub done-of-one : (phase : Phase) (a b : ℕ) → a ≡ doneOf phase → b ≡ doneOf phase → a ≡ b
+done-of-one phase a b p q = p ∙ sym q
+
+pub with-done-one : (phase : Phase) (n : ℕ) (a b : Phase) → a ≡ withDone phase n → b ≡ withDone phase n → a ≡ b
+with-done-one phase n a b p q = p ∙ sym q
+
+pub has-stored-one : (phase : Phase) (done : ℕ) (a b : Bool) → a ≡ stored phase done → b ≡ stored phase done → a ≡ b
+has-stored-one phase done a b p q = p ∙ sym q
+
+pub is-idle-one : (work : Work) (a b : Bool) → a ≡ idle work → b ≡ idle work → a ≡ b
+is-idle-one work a b p q = p ∙ sym q
+
+pub record-fine-one : (ws : List ℕ) (kind : Kind) (key : ℕ) (phase : Phase) (a b : Bool) → a ≡ recordFine ws kind key phase → b ≡ recordFine ws kind key phase → a ≡ b
+record-fine-one ws kind key phase a b p q = p ∙ sym q

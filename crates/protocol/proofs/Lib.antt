@@ -9,4 +9,5 @@ pub mod StoreLaws
 pub mod ChangeLaws
 pub mod Mistakes
 pub mod Paths
+pub mod Alone
 pub mod Words

@@ -6,3 +6,5 @@ pub mod Stores
 pub mod Walk
 pub mod Step
 pub mod Calls
+pub mod Alone
+pub mod Sets

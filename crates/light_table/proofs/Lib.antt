@@ -1,1 +1,2 @@
 pub mod Light
+pub mod Witnessed

@@ -1,3 +1,4 @@
 pub mod Texts
 pub mod Runs
 pub mod LightTable
+pub mod Witness

@@ -4,6 +4,7 @@
 use mathlib.Core.Path.{_≡_, refl, ap, _∙_}
 use mathlib.Core.Bool.{Bool, true}
 use mathlib.Core.List.{List}
+use mathlib.Core.Logic.{_⊎_, inl, inr}
 use Prim.Native.Nat.{ℕ, _+_, _-_}
 use lib.ListN.{length}
 use Rattle.table.specs.Pair.{stateF, linkF, lockF, busyF, slotsOf, busyOf, lockOf}
@@ -15,6 +16,7 @@ use Rattle.protocol.specs.Says.{Verdict}
 use Rattle.protocol.specs.Plan.{doneOf, actionOf}
 use Rattle.protocol.specs.Record.{recordFine}
 use Rattle.protocol.specs.Locks.{Did, weight, released}
+use Rattle.protocol.specs.Stores.{lowestFit}
 use Rattle.protocol.specs.Step.{Call, readsFine, actStep, settled, leave, stepOf}
 use Rattle.protocol.specs.Calls.{seated, startOf, withdrawOf}
 use Rattle.protocol.specs.declared.Kind.{Kind}
@@ -63,6 +65,44 @@ act-changes ws kind key p n next (Take prev side) t r f =
 act-changes ws kind key p n next End t r f =
     give-up-ends (λ (d : Did). Change ws p n (d .words)) ws p n (Ends Yes) (λ h. change-up ws p n) (λ h. nothing refl)
 act-changes ws kind key p n next Beyond t r f = nothing refl
+
+-- the same by the action: which slot and which field, and that a store stores
+pub record GaveUp (ws : List ℕ) (p : Phase) (n : ℕ) (vs : List ℕ) : Type 0 where
+  pub all-else : LocksOnly ws vs
+  pub off : (i : ℕ) (l : Which) → lockOf vs i l ≡ lockOf ws i l - held p n i l
+
+pub gives-up : (ws : List ℕ) (p : Phase) (n : ℕ) → GaveUp ws p n (released ws p n)
+gives-up ws p n = record { all-else = given-up-only ws p n; off = given-up-locks ws p n }
+
+abbrev pub Does : List ℕ → ℕ → Phase → ℕ → Action → List ℕ → Type 0
+Does ws key p n (Visit at prev before side up) vs = vs ≡ ws
+Does ws key p n (Look this prev side before up) vs = vs ≡ ws
+Does ws key p n (Lock slot which write state links) vs =
+    (vs ≡ ws) ⊎ (Only (lockF which) slot (lockOf ws slot which + weight write) ws vs ⊎ GaveUp ws p n vs)
+Does ws key p n (Mark slot to) vs = Only stateF slot to ws vs
+Does ws key p n (Link slot side to) vs = Only (linkF side) slot to ws vs
+Does ws key p n (Take prev side) vs = (vs ≡ ws) ⊎ (Joins (lowestFit ws) key prev side ws vs ⊎ GaveUp ws p n vs)
+Does ws key p n End vs = (vs ≡ ws) ⊎ GaveUp ws p n vs
+Does ws key p n Beyond vs = vs ≡ ws
+
+pub act-does : (ws : List ℕ) (kind : Kind) (key : ℕ) (p : Phase) (n : ℕ) (next : Phase) (a : Action)
+    → tableFine ws ≡ true → readsFine ws a ≡ true → Fits (slotsOf ws) a → Does ws key p n a (actStep ws kind key p n next a .words)
+unfolding actStep readsFine
+act-does ws kind key p n next (Visit at prev before side up) t r f = refl
+act-does ws kind key p n next (Look this prev side before up) t r f = refl
+act-does ws kind key p n next (Lock slot which write state links) t r f =
+    lock-ends (λ (d : Did). Does ws key p n (Lock slot which write state links) (d .words)) ws p n next slot which write state links
+    (λ g c. inr (inl (given-only ws slot which write state links r g c)))
+    (λ g c. inl refl) (λ g h. inr (inr (gives-up ws p n))) (λ g h. inl refl)
+act-does ws kind key p n next (Mark slot to) t r f = mark-only ws slot to r f
+act-does ws kind key p n next (Link slot side to) t r f = link-only ws slot side to t r f
+act-does ws kind key p n next (Take prev side) t r f =
+    take-ends (λ (d : Did). Does ws key p n (Take prev side) (d .words)) ws key p n next prev side
+    (λ e z. inr (inl (taken-joins ws key prev side t r e z)))
+    (λ e h. inr (inr (gives-up ws p n))) (λ e h. inl refl) (λ e z. inl refl)
+act-does ws kind key p n next End t r f =
+    give-up-ends (λ (d : Did). Does ws key p n End (d .words)) ws p n (Ends Yes) (λ h. inr (gives-up ws p n)) (λ h. inl refl)
+act-does ws kind key p n next Beyond t r f = refl
 
 -- a step makes such a change, and an ending leaves the seat besides
 pub data Stepping (ws : List ℕ) (p : Phase) (n : ℕ) (us : List ℕ) : Type 0 where

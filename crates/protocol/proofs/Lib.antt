@@ -8,6 +8,7 @@ pub mod HeldLaws
 pub mod StoreLaws
 pub mod ChangeLaws
 pub mod Mistakes
+pub mod Nine
 pub mod Paths
 pub mod Alone
 pub mod Words

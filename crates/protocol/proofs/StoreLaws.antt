@@ -120,6 +120,25 @@ pub lowest-fit : (ws : List ℕ) → lowestFit ws ≢ 0
 unfolding lowestFit
 lowest-fit ws d = let h = fit-from ws 1 (slotsOf ws - 1) d in (h .0, h .1, omega (arith, h .1, h .2))
 
+-- none below it is: it is the lowest
+pub fit-least-from : (ws : List ℕ) (i n : ℕ) → (j : ℕ) → i ≤ j → j < fitFrom ws i n → fit ws j ≡ false
+unfolding fitFrom
+fit-least-from ws i zero j a b = absurd (omega arith)
+fit-least-from ws i (suc n) j₀ a₀ b₀ =
+    by-cases (λ (k : ℕ). (j : ℕ) → i ≤ j → j < k → fit ws j ≡ false) (fit ws i)
+    (λ f j a b. absurd (omega arith))
+    (λ f j a b. go f j a (fit-least-from ws (suc i) n j) b (ℕ-discrete i j))
+    j₀ a₀ b₀
+  where
+    go : fit ws i ≡ false → (j : ℕ) → i ≤ j → (suc i ≤ j → j < fitFrom ws (suc i) n → fit ws j ≡ false) → j < fitFrom ws (suc i) n
+        → Dec (i ≡ j) → fit ws j ≡ false
+    go f j a on b (yes q) = rw (← q) f
+    go f j a on b (no q) = on (omega arith) b
+
+pub lowest-least : (ws : List ℕ) (j : ℕ) → 1 ≤ j → j < lowestFit ws → fit ws j ≡ false
+unfolding lowestFit
+lowest-least ws j a b = fit-least-from ws 1 (slotsOf ws - 1) j a b
+
 pub none-fit : (ws : List ℕ) → lowestFit ws ≡ 0 → (j : ℕ) → 1 ≤ j → j < slotsOf ws → fit ws j ≡ false
 unfolding lowestFit
 none-fit ws e j a b = fit-none-from ws 1 (slotsOf ws - 1) (omega arith) e j a (omega arith)

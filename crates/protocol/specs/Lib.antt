@@ -8,3 +8,5 @@ pub mod Step
 pub mod Calls
 pub mod Alone
 pub mod Sets
+pub mod Together
+pub mod TogetherPromise

@@ -1,1 +1,3 @@
+pub mod LegalLaws
+pub mod RoleLaws
 pub mod OneOutcome

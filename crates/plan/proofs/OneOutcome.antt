@@ -1,15 +1,17 @@
 -- For every input each promise leaves one answer: any two that it allows are equal.
 -- Assumes nothing.
 use mathlib.Core.Path.{_≡_, sym, _∙_}
-use mathlib.Core.Bool.{Bool}
+use mathlib.Core.Bool.{Bool, true}
 use mathlib.Core.List.{List}
 use Prim.Native.Nat.{ℕ}
 use Rattle.protocol.specs.Plan.{actionAt, atRoot, doneOf, withDone}
 use Rattle.protocol.specs.Record.{recordFine}
 use Rattle.protocol.specs.Calls.{stored, idle}
 use Rattle.protocol.specs.declared.Kind.{Kind}
+use Rattle.protocol.specs.declared.Kind.the-variants.{Lookup}
 use Rattle.protocol.specs.declared.Work.{Work}
 use Rattle.protocol.specs.declared.Phase.{Phase}
+use Rattle.protocol.specs.declared.Phase.the-variants.{Walk}
 use Rattle.protocol.specs.declared.Action.{Action}
 
 pub action-at-one : (phase : Phase) (i : ℕ) (a b : Action) → a ≡ actionAt phase i → b ≡ actionAt phase i → a ≡ b
@@ -32,3 +34,7 @@ is-idle-one work a b p q = p ∙ sym q
 
 pub record-fine-one : (ws : List ℕ) (kind : Kind) (key : ℕ) (phase : Phase) (a b : Bool) → a ≡ recordFine ws kind key phase → b ≡ recordFine ws kind key phase → a ≡ b
 record-fine-one ws kind key phase a b p q = p ∙ sym q
+
+pub walk-fine-one : (ws : List ℕ) (key at prev before : ℕ) (a b : Bool) → a ≡ recordFine ws Lookup key (Walk at prev before true true)
+    → b ≡ recordFine ws Lookup key (Walk at prev before true true) → a ≡ b
+walk-fine-one ws key at prev before a b p q = p ∙ sym q

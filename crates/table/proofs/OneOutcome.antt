@@ -4,7 +4,7 @@ use mathlib.Core.Path.{_≡_, sym, _∙_}
 use mathlib.Core.Bool.{Bool}
 use mathlib.Core.List.{List}
 use Prim.Native.Nat.{ℕ}
-use Rattle.table.specs.Pair.{slotsOf, keyOf, stateOf, linkOf, lockOf, busyOf, setKey, setState, setLink, setLock, setBusy, zeroPair}
+use Rattle.table.specs.Pair.{slotsOf, keyOf, stateOf, linkOf, lockOf, busyOf, setKey, setState, setLink, setLock, setBusy, zeroPair, zeroed}
 use Rattle.table.specs.Rules.{bitsFine, pairFine, tableFine, replySays, freshSays, freshWords}
 use Rattle.table.specs.declared.Which.{Which}
 use Rattle.table.specs.declared.Reply.{Reply}
@@ -45,6 +45,9 @@ set-busy-one ws n a b p q = p ∙ sym q
 
 pub zero-pair-one : (ws : List ℕ) (i : ℕ) (a b : Bool) → a ≡ zeroPair ws i → b ≡ zeroPair ws i → a ≡ b
 zero-pair-one ws i a b p q = p ∙ sym q
+
+pub zero-slot-one : (ws : List ℕ) (i : ℕ) (a b : List ℕ) → a ≡ zeroed ws i → b ≡ zeroed ws i → a ≡ b
+zero-slot-one ws i a b p q = p ∙ sym q
 
 pub bits-fine-one : (ws : List ℕ) (i : ℕ) (a b : Bool) → a ≡ bitsFine ws i → b ≡ bitsFine ws i → a ≡ b
 bits-fine-one ws i a b p q = p ∙ sym q

@@ -102,3 +102,7 @@ setBusy ws n = setField busyF ws 0 n
 -- all words of a slot are zero
 unfoldable pub zeroPair : List ℕ → ℕ → Bool
 zeroPair ws i = eqb (wordOf ws i 0) 0 && eqb (wordOf ws i 1) 0
+
+-- both made zero
+unfoldable pub zeroed : List ℕ → ℕ → List ℕ
+zeroed ws i = setWord (setWord ws i 0 0) i 1 0

@@ -5,8 +5,9 @@ use mathlib.Core.List.{List}
 use Prim.Native.Nat.{ℕ, _%_}
 use lib.Dec.{leb, ltb, eqb}
 use lib.ListN.{length, replicate}
+use Rattle.layout.specs.Layout.{fld}
 use Rattle.moment.specs.Said.{Said, gives, refuses}
-use Rattle.table.specs.Pair.{free, asData, slotsOf, fieldOf, zerosF, busyF, keyOf, stateOf, linkOf, lockOf, busyOf, setKey, setState}
+use Rattle.table.specs.Pair.{layout, free, asData, slotsOf, fieldOf, linkF, lockF, zerosF, busyF, keyOf, stateOf, linkOf, lockOf, busyOf, setKey, setState}
 use Rattle.table.specs.declared.Which.the-variants.{State, Edge}
 use Rattle.table.specs.declared.Reply.{Reply}
 use Rattle.table.specs.declared.Reply.the-variants.{Done, Refusal}
@@ -21,6 +22,13 @@ bitsFine ws i =
     ltb (linkOf ws i true) (slotsOf ws) && ltb (linkOf ws i false) (slotsOf ws)
     && lockFine (lockOf ws i State) && lockFine (lockOf ws i (Edge true)) && lockFine (lockOf ws i (Edge false))
     && (eqb i 0 || eqb (fieldOf busyF ws i) 0) && eqb (fieldOf zerosF ws i) 0
+
+-- the same of one word of fields x, in a table of n slots
+unfoldable pub wordFine : ℕ → ℕ → Bool → Bool
+wordFine x n root =
+    ltb (fld layout (linkF true) x) n && ltb (fld layout (linkF false) x) n
+    && lockFine (fld layout (lockF State) x) && lockFine (fld layout (lockF (Edge true)) x) && lockFine (fld layout (lockF (Edge false)) x)
+    && (root || eqb (fld layout busyF x) 0) && eqb (fld layout zerosF x) 0
 
 -- a pair that a step may read, store to or unlock: not free, and the bit rules
 unfoldable pub pairFine : List ℕ → ℕ → Bool

@@ -4,8 +4,10 @@ ghost use mathlib.Core.Path.{_≡_};
 ghost use Prim.Native.Nat.{ℕ, _+_, _^_, _<_, _≤_};
 ghost use lib.ListN.{length, replicate};
 ghost use Rattle.layout.specs.Word.{get, put};
-ghost use Rattle.table.specs.Pair.{slotsOf, wordOf, setWord, fieldOf, setField, keyOf, setKey, linkF, lockF, stateOf, linkOf, lockOf, busyOf, setState, setLink, setLock, setBusy, zeroPair};
-ghost use Rattle.table.specs.Rules.{lockFine, bitsFine, pairFine, rootFine, sizeFine, tableFine, replySays, freshSays, freshWords};
+ghost use Rattle.table.specs.Pair.{slotsOf, wordOf, setWord, fieldOf, setField, keyOf, setKey, linkF, lockF, stateOf, linkOf, lockOf, busyOf, setState, setLink, setLock, setBusy, zeroPair, zeroed};
+ghost use Rattle.table.specs.Rules.{bitsFine, pairFine, rootFine, tableFine, replySays, freshSays, freshWords};
+
+mod rules;
 
 // Which of a pair's locks: of its state, or of the edge on a side (true: left).
 pub enum Which {
@@ -40,8 +42,6 @@ const FIELDS: u64 = 8;
 const STATE: u64 = 0;
 
 const BUSY: u64 = 6;
-
-const ZEROS: u64 = 7;
 
 // The words that a slot has, and the fewest and the most that a table has.
 const WORDS: u64 = 2;
@@ -80,15 +80,11 @@ fn word(t: &[u64], i: u64, k: u64) -> u64
     requires { ⌜ k < 2 ⌝ }
     ensures { λ r. ⌜ r ≡ wordOf (now (t .entry)) i k ⌝ }
 {
-    let n = t.len() as u64;
+    let n = (t.len() as u64 + 1 - k) / WORDS;
     if n <= i {
         return 0;
     }
-    let j = WORDS * i + k;
-    if n <= j {
-        return 0;
-    }
-    let at = j as usize;
+    let at = (WORDS * i + k) as usize;
     t[at]
 }
 
@@ -222,23 +218,18 @@ pub fn zero_pair(t: &[u64], i: u64) -> bool
     (word(t, i, 0) == 0) & (word(t, i, 1) == 0)
 }
 
-fn lock_fine(x: u64) -> bool
-    ensures { λ r. ⌜ r ≡ lockFine x ⌝ }
+// Makes them zero.
+pub fn zero_slot(t: &mut [u64], i: u64)
+    ensures { λ _. ⌜ now (t .exit) ≡ zeroed (now (t .entry)) i ⌝ }
 {
-    (x == 1) | ((x % 2 == 0) & (x <= 32))
+    set_word(t, i, 0, 0);
+    set_word(t, i, 1, 0);
 }
 
 pub fn bits_fine(t: &[u64], i: u64) -> bool
     ensures { λ r. ⌜ r ≡ bitsFine (now (t .entry)) i ⌝ }
 {
-    let n = slots(t);
-    (link(t, i, true) < n)
-        & (link(t, i, false) < n)
-        & lock_fine(lock(t, i, Which::State))
-        & lock_fine(lock(t, i, Which::Edge(true)))
-        & lock_fine(lock(t, i, Which::Edge(false)))
-        & ((i == 0) | (field(t, i, BUSY) == 0))
-        & (field(t, i, ZEROS) == 0)
+    rules::word_fine(word(t, i, 1), slots(t), i == 0)
 }
 
 // May a step read, store to or unlock this pair?
@@ -251,17 +242,10 @@ pub fn pair_fine(t: &[u64], i: u64) -> bool
 fn root_fine(t: &[u64]) -> bool
     ensures { λ r. ⌜ r ≡ rootFine (now (t .entry)) ⌝ }
 {
-    (key(t, 0) == ALL_ONES)
-        & (state(t, 0) == DATA)
-        & (link(t, 0, false) == 0)
-        & bits_fine(t, 0)
-        & (busy(t) <= 16)
-}
-
-fn size_fine(n: u64) -> bool
-    ensures { λ r. ⌜ r ≡ sizeFine n ⌝ }
-{
-    (n % WORDS == 0) & (FEWEST <= n) & (n <= MOST)
+    if !((key(t, 0) == ALL_ONES) & (state(t, 0) == DATA) & (link(t, 0, false) == 0)) {
+        return false;
+    }
+    bits_fine(t, 0) & (busy(t) <= 16)
 }
 
 // Rule 1.
@@ -269,7 +253,10 @@ pub fn table_fine(t: &[u64]) -> bool
     ensures { λ r. ⌜ r ≡ tableFine (now (t .entry)) ⌝ }
 {
     let n = t.len() as u64;
-    size_fine(n) & root_fine(t)
+    if !rules::size_fine(n) {
+        return false;
+    }
+    root_fine(t)
 }
 
 fn clear(t: &mut [u64])
@@ -288,7 +275,7 @@ pub fn fresh(t: &mut [u64]) -> Reply
     ensures { λ r. ⌜ (replySays r ≡ freshSays (now (t .entry))) × (now (t .exit) ≡ freshWords (now (t .entry))) ⌝ }
 {
     let n = t.len() as u64;
-    if !size_fine(n) {
+    if !rules::size_fine(n) {
         return Reply::Refusal(1);
     }
     clear(t);

@@ -1,7 +1,5 @@
 // What a sweep asks of a table, and what it does to it.
 ghost use mathlib.Core.Path.{_≡_};
-ghost use Prim.Native.Nat.{_+_, _*_, _<_};
-ghost use lib.ListN.{length};
 ghost use Rattle.table.specs.Pair.{slotsOf};
 ghost use Rattle.tree.specs.Judge.{every, unlocked};
 ghost use Rattle.tree.specs.Answers.{sweepable, sweptSlot, swept};
@@ -40,16 +38,12 @@ pub fn is_sweepable(words: &[u64]) -> bool
     no_locks(words) & judge::exactly(words, DELETED, DELETED, 0)
 }
 
-// A deleted slot becomes free: its words are zero. Here alone it is known how many words a slot has.
+// A deleted slot becomes free: its words are zero.
 fn sweep_slot(words: &mut [u64], i: usize)
-    requires { ⌜ 2 * i + 1 < length (now words) ⌝ }
     ensures { λ _. ⌜ now (words .exit) ≡ sweptSlot (now (words .entry)) i ⌝ }
 {
     if table::state(words, i as u64) == DELETED {
-        let at = 2 * i;
-        let next = 2 * i + 1;
-        words[at] = 0;
-        words[next] = 0;
+        table::zero_slot(words, i as u64);
     }
 }
 

@@ -1,5 +1,6 @@
-use mathlib.Core.Path.{sym, _∙_}
-use Rattle.protocol.specs.Locks.{giveUp}
+use mathlib.Core.Path.{_≡_, sym, _∙_}
+use mathlib.Core.Bool.{true, false}
+use Rattle.protocol.specs.Locks.{allHeld, giveUp}
 use borrow.Author.Needs.{needs}
 use Rattle.locks.proofs.give_up.Statement.{statement}
 use Rattle.locks.proofs.give_up.Tie as tie
@@ -15,7 +16,8 @@ same-length c = search needs
 
 returns : tie.Need-returns
 unfolding giveUp
-returns c = let p = sym (c .before .before .before .before .before .all-held .ensures) ∙ c .before .before .before .before .if1 .taken in
+returns c = let a = c .before .before .before .before .before .before .before .before .args in
+    let p : allHeld (a .words .now) (a .phase) (a .done) ≡ true = sym (c .before .before .before .before .before .all-held .ensures) ∙ c .before .before .before .before .if1 .taken in
     (simp p, simp p (c .before .before .release-all .ensures))
 
 same-length-2 : tie.Need-same-length-2
@@ -23,7 +25,8 @@ same-length-2 c = search needs
 
 returns-2 : tie.Need-returns-2
 unfolding giveUp
-returns-2 c = let p = sym (c .before .all-held .ensures) ∙ c .if1 .left in
+returns-2 c = let a = c .before .before .before .before .args in
+    let p : allHeld (a .words .now) (a .phase) (a .done) ≡ false = sym (c .before .all-held .ensures) ∙ c .if1 .left in
     (simp p, simp p)
 
 pub give-up-spec : {M : Type 1} → statement M

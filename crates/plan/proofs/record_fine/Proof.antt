@@ -17,7 +17,7 @@ busy-requires c κs = search needs
 
 returns : tie.Need-returns
 unfolding recordFine
-returns c = cc
+returns c = rw (c .busy .ensures, c .before .roles-fine .ensures, c .before .before .legal .ensures, c .before .before .before .slots .ensures)
 
 pub record-fine-spec : {M : Type 1} → statement M
 record-fine-spec =

@@ -11,7 +11,7 @@ bits-fine-requires c κs = search needs
 
 returns : tie.Need-returns
 unfolding pairFine
-returns c = cc
+returns c = rw (c .before .state .ensures, c .bits-fine .ensures)
 
 pub pair-fine-spec : {M : Type 1} → statement M
 pair-fine-spec = tie.close (tie.spec state-requires bits-fine-requires returns)

@@ -11,7 +11,7 @@ word-requires-2 c κs = search needs
 
 returns : tie.Need-returns
 unfolding zeroPair
-returns c = cc
+returns c = rw (c .before .word .ensures, c .word2 .ensures)
 
 pub zero-pair-spec : {M : Type 1} → statement M
 zero-pair-spec = tie.close (tie.spec word-requires word-requires-2 returns)

@@ -1,4 +1,6 @@
-use mathlib.Core.Path.{sym, _∙_}
+use mathlib.Core.Path.{_≡_, sym, _∙_}
+use mathlib.Core.Bool.{false}
+use Rattle.protocol.specs.Locks.{allHeld}
 use borrow.Author.Tests.{not-true, not-false}
 use Rattle.protocol.specs.Calls.{judgeBusy}
 use borrow.Author.Needs.{needs}
@@ -21,7 +23,9 @@ all-held-requires c κs = search needs
 returns-2 : tie.Need-returns-2
 unfolding judgeBusy
 returns-2 c = let p = sym (c .before .before .before .before .record-fine .ensures) ∙ not-false (c .before .before .before .before .record-fine .result) (c .before .before .before .if1 .left) in
-    let q = rw (c .before .before .done-of .ensures) at (sym (c .before .all-held .ensures) ∙ not-true (c .before .all-held .result) (c .if2 .taken)) in
+    let a = c .before .before .before .before .before .before .args in
+    let h : allHeld (a .words .now) (a .phase) (c .before .before .done-of .result) ≡ false = sym (c .before .all-held .ensures) ∙ not-true (c .before .all-held .result) (c .if2 .taken) in
+    let q = rw (c .before .before .done-of .ensures) at h in
     simp (p, q)
 
 has-stored-requires : tie.Need-has-stored-requires

@@ -1,0 +1,12 @@
+use borrow.Author.Needs.{needs}
+use Rattle.table.proofs.busy.Statement.{statement}
+use Rattle.table.proofs.busy.Tie as tie
+
+field-requires : tie.Need-field-requires
+field-requires c κs = search needs
+
+returns : tie.Need-returns
+returns c = c .field .ensures
+
+pub busy-spec : {M : Type 1} → statement M
+busy-spec = tie.close (tie.spec field-requires returns)

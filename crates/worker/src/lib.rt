@@ -54,7 +54,7 @@ fn any_step(words: &mut [u64], w: Worker) -> Stepped
     }
 }
 
-// One step. A record that is idle, damaged or of another table is refused like any other. A walk that goes on, which most
+// One step. A record that is idle or damaged is refused; that it belongs to another table is not seen. A walk that goes on, which most
 // steps are, is judged on two words of the table and asks nothing of the plan.
 pub fn step(words: &mut [u64], w: Worker) -> Stepped
     ensures { λ r. ⌜ (answerSays (r .answer) ≡ stepOf (now (words .entry)) w .says) × (r .worker ≡ stepOf (now (words .entry)) w .worker) × (now (words .exit) ≡ stepOf (now (words .entry)) w .words) ⌝ }

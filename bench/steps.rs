@@ -1,0 +1,234 @@
+// Measures the library's calls against plain code, in one run: ratios of times, or, under `steps count ..`, the same work for
+// valgrind to count. bench/steps builds and runs both.
+#[path = "steps_plain.rs"]
+mod plain;
+#[path = "../rust/src/raw.rs"]
+#[allow(dead_code)]
+mod raw;
+
+use plain::{Plain, IDLE};
+use std::collections::BTreeSet;
+use std::hint::black_box;
+use std::time::Instant;
+
+const LOOKUP: u64 = 1;
+const INSERT: u64 = 2;
+const REMOVE: u64 = 3;
+
+/// What is measured: whole works of the library, of plain code, of a `BTreeSet`.
+trait Works {
+    /// A whole work; how many steps it took.
+    fn work(&mut self, work: u64, key: u64) -> u64;
+    fn words(&self) -> &[u64];
+}
+
+#[derive(Clone)]
+struct Library {
+    words: Vec<u64>,
+    record: [u64; raw::RECORD_WORDS],
+}
+
+impl Works for Library {
+    fn work(&mut self, work: u64, key: u64) -> u64 {
+        match work {
+            LOOKUP => raw::start_lookup(&mut self.words, &mut self.record, key),
+            INSERT => raw::start_insert(&mut self.words, &mut self.record, key),
+            _ => raw::start_remove(&mut self.words, &mut self.record, key),
+        };
+        let mut steps = 1;
+        while raw::step(&mut self.words, &mut self.record) == raw::DONE {
+            steps += 1;
+        }
+        steps
+    }
+
+    fn words(&self) -> &[u64] {
+        &self.words
+    }
+}
+
+#[derive(Clone)]
+struct PlainTable {
+    words: Vec<u64>,
+    record: Plain,
+}
+
+impl Works for PlainTable {
+    fn work(&mut self, work: u64, key: u64) -> u64 {
+        self.record.start(&mut self.words, work, key);
+        let mut steps = 1;
+        while self.record.step(&mut self.words) == plain::GOING {
+            steps += 1;
+        }
+        steps
+    }
+
+    fn words(&self) -> &[u64] {
+        &self.words
+    }
+}
+
+#[derive(Clone)]
+struct Tree(BTreeSet<u64>);
+
+impl Works for Tree {
+    fn work(&mut self, work: u64, key: u64) -> u64 {
+        match work {
+            LOOKUP => self.0.contains(&key),
+            INSERT => self.0.insert(key),
+            _ => self.0.remove(&key),
+        };
+        1
+    }
+
+    fn words(&self) -> &[u64] {
+        &[]
+    }
+}
+
+/// So many legal keys, in a random order.
+fn keys(n: usize) -> Vec<u64> {
+    let mut x = 88172645463325252u64;
+    let mut keys: Vec<u64> = Vec::new();
+    for i in 0..n as u64 {
+        let mut key = 0;
+        let fields = [2024, 6, 15, 10 + i / 3600, i / 60 % 60, i % 60, 0, 1, i];
+        assert_eq!(raw::pack(&fields, &mut key), 0);
+        keys.push(key);
+        x ^= x << 13;
+        x ^= x >> 7;
+        x ^= x << 17;
+        keys.swap(i as usize, (x % (i + 1)) as usize);
+    }
+    keys
+}
+
+/// A table three quarters full.
+fn filled(slots: usize) -> (Library, Vec<u64>) {
+    let mut l = Library { words: vec![0; 2 * slots], record: [0; raw::RECORD_WORDS] };
+    assert_eq!(raw::fresh(&mut l.words), 0);
+    let keys = keys(slots * 3 / 4);
+    for key in &keys {
+        l.work(INSERT, *key);
+    }
+    assert_eq!(raw::check(&l.words), raw::YES);
+    (l, keys)
+}
+
+/// One round: look all keys up; or take some out and put them in again, as many as there is room for.
+fn round(w: &mut impl Works, keys: &[u64], change: bool) -> (u64, u64) {
+    let (mut steps, mut works) = (0, 0);
+    let some = &keys[..if change { keys.len() / 6 } else { keys.len() }];
+    for work in if change { &[REMOVE, INSERT][..] } else { &[LOOKUP][..] } {
+        for key in some {
+            steps += w.work(*work, black_box(*key));
+            works += 1;
+        }
+    }
+    (steps, works)
+}
+
+/// Nanoseconds a step and a work: the best of many rounds, each from the same table.
+fn time<W: Works + Clone>(from: &W, keys: &[u64], change: bool) -> (f64, f64, Vec<u64>) {
+    let mut best = f64::MAX;
+    let (mut steps, mut works, mut after) = (0, 0, vec![]);
+    for _ in 0..200_000 / keys.len() {
+        let mut w = from.clone();
+        let at = Instant::now();
+        (steps, works) = round(&mut w, keys, change);
+        best = best.min(at.elapsed().as_nanos() as f64);
+        after = w.words().to_vec();
+    }
+    (best / steps as f64, best / works as f64, after)
+}
+
+fn scan(words: &[u64]) -> u64 {
+    words.iter().fold(0, |a, w| a ^ w)
+}
+
+/// A call between steps, once.
+fn between(call: &str, words: &mut [u64], out: &mut [u64]) -> u64 {
+    let mut value = 0;
+    match call {
+        "list" => raw::list(words, 0, u64::MAX, out, &mut value),
+        "first" => raw::first(words, 0, &mut value),
+        "check" => raw::check(words),
+        "sweep" => raw::sweep(words),
+        _ => scan(words),
+    }
+}
+
+const CALLS: [&str; 5] = ["scan", "list", "first", "check", "sweep"];
+
+fn time_between(call: &str, words: &[u64]) -> f64 {
+    let (mut words, mut out, mut best) = (words.to_vec(), vec![0; words.len()], f64::MAX);
+    for _ in 0..60 {
+        let at = Instant::now();
+        for _ in 0..20 {
+            black_box(between(call, black_box(&mut words), &mut out));
+        }
+        best = best.min(at.elapsed().as_nanos() as f64 / 20.0);
+    }
+    best
+}
+
+fn times() {
+    println!("time, best of many rounds            slots   library     plain  BTreeSet   library/plain  library/BTreeSet");
+    for slots in [64, 256, 1024] {
+        let (l, keys) = filled(slots);
+        let p = PlainTable { words: l.words.clone(), record: IDLE };
+        let t = Tree(keys.iter().copied().collect());
+        for change in [false, true] {
+            let name = if change { "remove or insert" } else { "lookup" };
+            let (a, b, c) = (time(&l, &keys, change), time(&p, &keys, change), time(&t, &keys, change));
+            assert!(a.2 == b.2, "the plain steps left other words");
+            println!(
+                "{:<36} {slots:5} {:6.1} ns {:6.1} ns {:>12} {:12.2}",
+                format!("a step of a {name}"),
+                a.0,
+                b.0,
+                "",
+                a.0 / b.0
+            );
+            let (x, y) = (a.1 / b.1, a.1 / c.1);
+            println!(
+                "{:<36} {slots:5} {:6.0} ns {:6.0} ns {:6.0} ns {x:12.2} {y:15.2}",
+                format!("a whole {name}"),
+                a.1,
+                b.1,
+                c.1
+            );
+        }
+        let base = time_between("scan", &l.words);
+        for call in &CALLS[1..] {
+            let t = time_between(call, &l.words);
+            println!("{call:<36} {slots:5} {t:6.0} ns {base:6.0} ns (plain: a scan of the words) {:.1}", t / base);
+        }
+    }
+}
+
+/// The same work n times, for valgrind; prints how many units one time is.
+fn count(who: &str, what: &str, slots: usize, n: u64) {
+    let (l, keys) = filled(slots);
+    let p = PlainTable { words: l.words.clone(), record: IDLE };
+    let t = Tree(keys.iter().copied().collect());
+    let (change, mut words, mut out) = (what == "change", l.words.clone(), vec![0; 2 * slots]);
+    let mut one = (1, 1);
+    for _ in 0..n {
+        match who {
+            "library" => one = round(&mut l.clone(), &keys, change),
+            "plain" => one = round(&mut p.clone(), &keys, change),
+            "btree" => one = round(&mut t.clone(), &keys, change),
+            _ => one.0 = 1 + (black_box(between(what, &mut words, &mut out)) & 0),
+        }
+    }
+    println!("{} {}", one.0, one.1);
+}
+
+fn main() {
+    let args: Vec<String> = std::env::args().collect();
+    match args.get(1).map(|a| a.as_str()) {
+        Some("count") => count(&args[2], &args[3], args[4].parse().unwrap(), args[5].parse().unwrap()),
+        _ => times(),
+    }
+}

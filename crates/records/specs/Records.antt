@@ -1,0 +1,136 @@
+-- A worker's record as eleven words: work, key, phase, then what the phase notes: this slot, previous, the side of this
+-- under previous, the one before, the side of previous under it, the child or other child, the child's side, and how many
+-- of the plan's actions are done. What a phase does not note is 0; a side is 0 for left and 1 for right.
+-- Assumes nothing.
+use mathlib.Core.Bool.{Bool, true, false, cond, _&&_}
+use mathlib.Core.List.{List, [], _∷_}
+use Prim.Native.Nat.{ℕ}
+use lib.Dec.{eqb}
+use lib.ListN.{length, getD}
+use Rattle.protocol.specs.declared.Kind.{Kind}
+use Rattle.protocol.specs.declared.Kind.the-variants.{Lookup, Insert, Remove}
+use Rattle.protocol.specs.declared.Work.{Work}
+use Rattle.protocol.specs.declared.Work.the-variants.{Idle, Busy}
+use Rattle.protocol.specs.declared.Phase.{Phase}
+use Rattle.protocol.specs.declared.Phase.the-variants.{Walk, OnRouting, New, Two, One, Leaf, UnderData, UnderRouting}
+use Rattle.protocol.specs.declared.Worker.{Worker}
+use Rattle.records.specs.declared.Flat.{Flat}
+use Rattle.records.specs.declared.Lent.{Lent}
+use Rattle.records.specs.declared.Lent.the-variants.{Record, Nothing}
+
+-- From a record to words
+
+abbrev pub sideNumber : Bool → ℕ
+sideNumber true = 0
+sideNumber false = 1
+
+abbrev pub kindNumber : Kind → ℕ
+kindNumber Lookup = 1
+kindNumber Insert = 2
+kindNumber Remove = 3
+
+abbrev pub workNumber : Work → ℕ
+workNumber Idle = 0
+workNumber (Busy kind) = kindNumber kind
+
+abbrev pub notedOf : ℕ → ℕ → ℕ → ℕ → ℕ → Bool → ℕ → Bool → ℕ → Bool → ℕ → Flat
+notedOf work key phase this prev side before up other toward done =
+    record {
+      work = work;
+      key = key;
+      phase = phase;
+      this = this;
+      prev = prev;
+      side = sideNumber side;
+      before = before;
+      up = sideNumber up;
+      other = other;
+      toward = sideNumber toward;
+      done = done;
+    }
+
+abbrev pub phaseFlat : ℕ → ℕ → Phase → Flat
+phaseFlat work key (Walk at prev before side up) = notedOf work key 0 at prev side before up 0 true 0
+phaseFlat work key (OnRouting this done) = notedOf work key 1 this 0 true 0 true 0 true done
+phaseFlat work key (New prev side done) = notedOf work key 2 0 prev side 0 true 0 true done
+phaseFlat work key (Two this done) = notedOf work key 3 this 0 true 0 true 0 true done
+phaseFlat work key (One this prev side child toward done) = notedOf work key 4 this prev side 0 true child toward done
+phaseFlat work key (Leaf this prev side before up) = notedOf work key 5 this prev side before up 0 true 0
+phaseFlat work key (UnderData this prev side done) = notedOf work key 6 this prev side 0 true 0 true done
+phaseFlat work key (UnderRouting this prev side before up other done) =
+    notedOf work key 7 this prev side before up other true done
+
+unfoldable pub flatOf : Worker → Flat
+flatOf w = phaseFlat (workNumber (w .work)) (w .key) (w .phase)
+
+-- the words in their order
+abbrev pub listed : Flat → List ℕ
+listed f =
+    f .work ∷ f .key ∷ f .phase ∷ f .this ∷ f .prev ∷ f .side ∷ f .before ∷ f .up ∷ f .other ∷ f .toward ∷ f .done ∷ []
+
+-- the words of a record
+unfoldable pub wordsOf : Worker → List ℕ
+wordsOf w = listed (flatOf w)
+
+-- From words to a record
+
+unfoldable pub flatAt : List ℕ → Flat
+flatAt s =
+    record {
+      work = getD s 0 0;
+      key = getD s 1 0;
+      phase = getD s 2 0;
+      this = getD s 3 0;
+      prev = getD s 4 0;
+      side = getD s 5 0;
+      before = getD s 6 0;
+      up = getD s 7 0;
+      other = getD s 8 0;
+      toward = getD s 9 0;
+      done = getD s 10 0;
+    }
+
+unfoldable pub workAt : ℕ → Work
+workAt n = cond (eqb n 1) (Busy Lookup) (cond (eqb n 2) (Busy Insert) (cond (eqb n 3) (Busy Remove) Idle))
+
+unfoldable pub phaseAt : ℕ → ℕ → ℕ → Bool → ℕ → Bool → ℕ → Bool → ℕ → Phase
+phaseAt n this prev side before up other toward done =
+    cond (eqb n 1) (OnRouting this done)
+    (cond (eqb n 2) (New prev side done)
+    (cond (eqb n 3) (Two this done)
+    (cond (eqb n 4) (One this prev side other toward done)
+    (cond (eqb n 5) (Leaf this prev side before up)
+    (cond (eqb n 6) (UnderData this prev side done)
+    (cond (eqb n 7) (UnderRouting this prev side before up other done) (Walk this prev before side up)))))))
+
+unfoldable pub workerAt : Flat → Worker
+workerAt f =
+    record {
+      work = workAt (f .work);
+      key = f .key;
+      phase = phaseAt (f .phase) (f .this) (f .prev) (eqb (f .side) 0) (f .before) (eqb (f .up) 0) (f .other) (eqb (f .toward) 0) (f .done);
+    }
+
+-- the record that the words are, where they are one
+abbrev pub workerOf : List ℕ → Worker
+workerOf s = workerAt (flatAt s)
+
+-- Which words are a record: eleven, and the words of the record that is read from them. `proofs/Canonical.antt` shows that
+-- these are exactly the words of records, and that each is the words of one.
+
+unfoldable pub sameFlat : Flat → Flat → Bool
+sameFlat a b =
+    eqb (a .work) (b .work) && eqb (a .key) (b .key) && eqb (a .phase) (b .phase) && eqb (a .this) (b .this)
+    && eqb (a .prev) (b .prev) && eqb (a .side) (b .side) && eqb (a .before) (b .before) && eqb (a .up) (b .up)
+    && eqb (a .other) (b .other) && eqb (a .toward) (b .toward) && eqb (a .done) (b .done)
+
+unfoldable pub isRecord : List ℕ → Bool
+isRecord s = eqb (length s) 11 && sameFlat (flatAt s) (flatOf (workerOf s))
+
+-- what lent words are
+unfoldable pub readOf : List ℕ → Lent
+readOf s = cond (isRecord s) (Record (workerOf s)) Nothing
+
+-- a record put into lent words; nothing where they do not fit exactly
+unfoldable pub putRecord : List ℕ → Worker → List ℕ
+putRecord s w = cond (eqb (length s) 11) (wordsOf w) s

@@ -1,0 +1,222 @@
+// A worker's record as eleven words, and back. Every record has its words, and no two records have the same.
+ghost use mathlib.Core.Path.{_≡_};
+ghost use lib.ListN.{length};
+ghost use Rattle.records.specs.Records.{sideNumber, kindNumber, workNumber, flatAt, notedOf, phaseFlat, flatOf, sameFlat, readOf, listed, putRecord};
+use protocol::Kind;
+use protocol::Phase;
+use protocol::Work;
+use protocol::Worker;
+
+mod reading;
+
+// How many words a record has.
+const WORDS: usize = 11;
+
+// The words by name. What a phase does not note is 0; a side is 0 for left, 1 for right.
+pub struct Flat {
+    pub work: u64,
+    pub key: u64,
+    pub phase: u64,
+    pub this: u64,
+    pub prev: u64,
+    pub side: u64,
+    pub before: u64,
+    pub up: u64,
+    pub other: u64,
+    pub toward: u64,
+    pub done: u64,
+}
+
+// What lent words are: a record, or none.
+pub enum Lent {
+    Record(Worker),
+    Nothing,
+}
+
+// From a record to words
+
+fn side_number(left: bool) -> u64
+    ensures { λ r. ⌜ r ≡ sideNumber left ⌝ }
+{
+    if left { 0 } else { 1 }
+}
+
+fn kind_number(k: Kind) -> u64
+    ensures { λ r. ⌜ r ≡ kindNumber k ⌝ }
+{
+    match k {
+        Kind::Lookup => 1,
+        Kind::Insert => 2,
+        Kind::Remove => 3,
+    }
+}
+
+fn work_number(w: Work) -> u64
+    ensures { λ r. ⌜ r ≡ workNumber w ⌝ }
+{
+    match w {
+        Work::Idle => 0,
+        Work::Busy(kind) => kind_number(kind),
+    }
+}
+
+fn noted(
+    work: u64,
+    key: u64,
+    phase: u64,
+    this: u64,
+    prev: u64,
+    side: bool,
+    before: u64,
+    up: bool,
+    other: u64,
+    toward: bool,
+    done: u64,
+) -> Flat
+    ensures { λ r. ⌜ r ≡ notedOf work key phase this prev side before up other toward done ⌝ }
+{
+    Flat {
+        work,
+        key,
+        phase,
+        this,
+        prev,
+        side: side_number(side),
+        before,
+        up: side_number(up),
+        other,
+        toward: side_number(toward),
+        done,
+    }
+}
+
+fn phase_flat(w: u64, k: u64, p: Phase) -> Flat
+    ensures { λ r. ⌜ r ≡ phaseFlat w k p ⌝ }
+{
+    match p {
+        Phase::Walk {
+            at,
+            prev,
+            before,
+            side,
+            up,
+        } => noted(w, k, 0, at, prev, side, before, up, 0, true, 0),
+        Phase::OnRouting { this, done } => noted(w, k, 1, this, 0, true, 0, true, 0, true, done),
+        Phase::New { prev, side, done } => noted(w, k, 2, 0, prev, side, 0, true, 0, true, done),
+        Phase::Two { this, done } => noted(w, k, 3, this, 0, true, 0, true, 0, true, done),
+        Phase::One {
+            this,
+            prev,
+            side,
+            child,
+            toward,
+            done,
+        } => noted(w, k, 4, this, prev, side, 0, true, child, toward, done),
+        Phase::Leaf {
+            this,
+            prev,
+            side,
+            before,
+            up,
+        } => noted(w, k, 5, this, prev, side, before, up, 0, true, 0),
+        Phase::UnderData {
+            this,
+            prev,
+            side,
+            done,
+        } => noted(w, k, 6, this, prev, side, 0, true, 0, true, done),
+        Phase::UnderRouting {
+            this,
+            prev,
+            side,
+            before,
+            up,
+            other,
+            done,
+        } => noted(w, k, 7, this, prev, side, before, up, other, true, done),
+    }
+}
+
+fn flat_of(w: Worker) -> Flat
+    ensures { λ r. ⌜ r ≡ flatOf w ⌝ }
+{
+    let work = w.work;
+    let phase = w.phase;
+    phase_flat(work_number(work), w.key, phase)
+}
+
+fn same(a: Flat, b: Flat) -> bool
+    ensures { λ r. ⌜ r ≡ sameFlat a b ⌝ }
+{
+    (a.work == b.work)
+        & (a.key == b.key)
+        & (a.phase == b.phase)
+        & (a.this == b.this)
+        & (a.prev == b.prev)
+        & (a.side == b.side)
+        & (a.before == b.before)
+        & (a.up == b.up)
+        & (a.other == b.other)
+        & (a.toward == b.toward)
+        & (a.done == b.done)
+}
+
+fn flat_at(s: &[u64]) -> Flat
+    requires { ⌜ length (now s) ≡ 11 ⌝ }
+    ensures { λ r. ⌜ r ≡ flatAt (now (s .entry)) ⌝ }
+{
+    Flat {
+        work: s[0],
+        key: s[1],
+        phase: s[2],
+        this: s[3],
+        prev: s[4],
+        side: s[5],
+        before: s[6],
+        up: s[7],
+        other: s[8],
+        toward: s[9],
+        done: s[10],
+    }
+}
+
+// The record that the words are: they are eleven, and the record's own.
+pub fn read(s: &[u64]) -> Lent
+    ensures { λ r. ⌜ r ≡ readOf (now (s .entry)) ⌝ }
+{
+    if s.len() != WORDS {
+        return Lent::Nothing;
+    }
+    let f = flat_at(s);
+    let w = reading::worker_of(f);
+    if same(f, flat_of(w)) {
+        return Lent::Record(w);
+    }
+    Lent::Nothing
+}
+
+fn fill(d: &mut [u64], f: Flat)
+    requires { ⌜ length (now d) ≡ 11 ⌝ }
+    ensures { λ _. ⌜ now (d .exit) ≡ listed f ⌝ }
+{
+    d[0] = f.work;
+    d[1] = f.key;
+    d[2] = f.phase;
+    d[3] = f.this;
+    d[4] = f.prev;
+    d[5] = f.side;
+    d[6] = f.before;
+    d[7] = f.up;
+    d[8] = f.other;
+    d[9] = f.toward;
+    d[10] = f.done;
+}
+
+// Puts the record's words there; nothing where they do not fit exactly.
+pub fn put(d: &mut [u64], w: Worker)
+    ensures { λ _. ⌜ now (d .exit) ≡ putRecord (now (d .entry)) w ⌝ }
+{
+    if d.len() == WORDS {
+        fill(d, flat_of(w));
+    }
+}

@@ -39,4 +39,9 @@ pub mod Begin
 pub mod Truth
 pub mod Demand
 pub mod Frames
+pub mod LinearWorks
+pub mod LinearHistory
+pub mod LinearOrder
+pub mod LinearServes
+pub mod Linear
 pub mod Example

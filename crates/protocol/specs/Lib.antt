@@ -10,3 +10,4 @@ pub mod Alone
 pub mod Sets
 pub mod Together
 pub mod TogetherPromise
+pub mod Linear

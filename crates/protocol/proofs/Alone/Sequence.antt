@@ -103,12 +103,12 @@ module _ (ws vs : List ℕ) {S : Values} (h : Shows ws S) (k : ℕ) (others : (j
   other-shows : (j : ℕ) → j ≢ k → (S j ≡ true) ↔ InSet vs j
   other-shows j n = ((λ e. others j n .1 (h j .0 e)), λ i. h j .1 (others j n .0 i))
 
-  shows-put : InSet vs k → Shows vs (valuesAfter Insert S k)
+  pub shows-put : InSet vs k → Shows vs (valuesAfter Insert S k)
   unfolding valuesAfter
   shows-put i j =
       at-value (λ b. ((b || S j) ≡ true) ↔ InSet vs j) j k (λ e. ((λ t. rw e i), λ t. refl)) (λ n. other-shows j n)
 
-  shows-taken : (InSet vs k → ⊥) → Shows vs (valuesAfter Remove S k)
+  pub shows-taken : (InSet vs k → ⊥) → Shows vs (valuesAfter Remove S k)
   unfolding valuesAfter
   shows-taken o j =
       at-value (λ b. ((not b && S j) ≡ true) ↔ InSet vs j) j k

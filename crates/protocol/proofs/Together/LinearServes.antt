@@ -2,13 +2,10 @@
 -- held responds as each of them said, and ends with what the table holds.
 -- Assumes nothing.
 use mathlib.Core.Path.{_≡_, refl, sym, ap, _∙_, subst}
-use mathlib.Core.Bool.{Bool, true, false, not, _&&_, _||_, true≢false}
+use mathlib.Core.Bool.{Bool, true, false, not}
 use mathlib.Core.List.{List, [], _∷_}
 use mathlib.Core.Logic.{_↔_, _⊎_, inl, inr, ⊎-elim, _≢_}
 use Prim.Native.Nat.{ℕ, suc}
-use native.Mathlib.Decide.{ℕ-discrete}
-use lib.Dec.{eqb}
-use borrow.Author.Tests.{eq-eqb, ne-eqb}
 use Rattle.moment.specs.Said.{gives}
 use Rattle.tree.specs.Reach.{InSet}
 use Rattle.protocol.specs.Says as says
@@ -22,6 +19,7 @@ use Rattle.protocol.specs.declared.Kind.{Kind}
 use Rattle.protocol.specs.declared.Kind.the-variants.{Lookup, Insert, Remove}
 use Rattle.protocol.specs.declared.Work.{Work}
 use Rattle.protocol.specs.declared.Work.the-variants.{Busy}
+use Rattle.protocol.proofs.Alone.Sequence.{shows-put, shows-taken}
 use Rattle.protocol.proofs.Together.Called.{busy-is}
 use Rattle.protocol.proofs.Together.LinearWorks.{changed-busy, yes-moves, ends-busy}
 use Rattle.protocol.proofs.Together.LinearHistory.{Leads}
@@ -38,26 +36,15 @@ absent ws S h key n = go (S key) refl
     go true e = absurd (n (h key .0 e))
     go false e = refl
 
-at-value : (P : Bool → Type 0) (j k : ℕ) → (j ≡ k → P true) → (j ≢ k → P false) → P (eqb j k)
-at-value P j k f g = go (ℕ-discrete j k)
-  where
-    go : Dec (j ≡ k) → P (eqb j k)
-    go (yes e) = rw (eq-eqb j k e) (f e)
-    go (no e) = rw (ne-eqb j k e) (g e)
-
 module _ (ws vs : List ℕ) (S : Values) (h : Shows ws S) (key : ℕ) (others : SameBut key ws vs) where
-  other : (j : ℕ) → j ≢ key → (S j ≡ true) ↔ InSet vs j
-  other j n = ((λ e. others j n .0 (h j .0 e)), λ i. h j .1 (others j n .1 i))
+  back : (j : ℕ) → j ≢ key → InSet vs j ↔ InSet ws j
+  back j n = (others j n .1, others j n .0)
 
   put-shows : InSet vs key → Shows vs (valuesAfter Insert S key)
-  unfolding valuesAfter
-  put-shows i j = at-value (λ b. ((b || S j) ≡ true) ↔ InSet vs j) j key (λ e. ((λ t. rw e i), λ t. refl)) (λ n. other j n)
+  put-shows i = shows-put ws vs h key back i
 
   taken-shows : (InSet vs key → ⊥) → Shows vs (valuesAfter Remove S key)
-  unfolding valuesAfter
-  taken-shows o j =
-      at-value (λ b. ((not b && S j) ≡ true) ↔ InSet vs j) j key
-      (λ e. ((λ t. absurd (true≢false (sym t))), λ t. absurd (o (rw e at t)))) (λ n. other j n)
+  taken-shows o = shows-taken ws vs h key back o
 
 looked : (ws : List ℕ) (S : Values) (key : ℕ) → Shows ws S → Shows ws (valuesAfter Lookup S key)
 unfolding valuesAfter

@@ -12,9 +12,10 @@ pub mod HeldLaws
 pub mod StoreLaws
 pub mod ChangeLaws
 pub mod Words
--- the shipped mistakes; 9
+-- the shipped mistakes; 9; why a call is refused
 pub mod Mistakes
 pub mod Nine
+pub mod Refusals
 -- walks and the set under each kind of store
 pub mod Paths
 -- demand 2: Alone/Demand. Demand 3: Together/Demand

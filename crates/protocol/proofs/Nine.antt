@@ -52,7 +52,7 @@ pub record Nine (ws : List ℕ) (slot : ℕ) (which : Which) (write : Bool) (sta
   pub links-fit : linksFit ws slot links ≡ true
   pub readers : lockOf ws slot which ≡ 32
 
-nine : (ws : List ℕ) (slot : ℕ) (which : Which) (write : Bool) (state : ℕ) (links : Links) → pairFine ws slot ≡ true
+pub nine : (ws : List ℕ) (slot : ℕ) (which : Which) (write : Bool) (state : ℕ) (links : Links) → pairFine ws slot ≡ true
     → granted ws slot which write state links ≡ true → crowded write (lockOf ws slot which) ≡ true → Nine ws slot which write state links
 unfolding granted crowded
 nine ws slot which true state links f g c = absurd (false≢true c)

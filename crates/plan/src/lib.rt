@@ -6,7 +6,7 @@ ghost use Rattle.protocol.specs.Plan.{atRoot, actionAt, doneOf, withDone, isSto
 ghost use Rattle.protocol.specs.Record.{recordFine};
 ghost use Rattle.protocol.specs.Calls.{idle, stored};
 ghost use Rattle.protocol.specs.declared.Kind.the-variants.{Lookup};
-ghost use Rattle.protocol.specs.declared.Phase.the-variants.{Walk};
+ghost use Rattle.protocol.specs.declared.Phase.the-variants.{Walk, One, UnderData, UnderRouting};
 use protocol::Action;
 use protocol::Kind;
 use protocol::Phase;
@@ -95,6 +95,54 @@ pub fn done_of(phase: Phase) -> u64
     }
 }
 
+// A remover's phases, with n of their actions done.
+
+fn one(this: u64, prev: u64, side: bool, child: u64, toward: bool, n: u64) -> Phase
+    ensures { λ r. ⌜ r ≡ One this prev side child toward n ⌝ }
+{
+    Phase::One {
+        this,
+        prev,
+        side,
+        child,
+        toward,
+        done: n,
+    }
+}
+
+fn under_data(this: u64, prev: u64, side: bool, n: u64) -> Phase
+    ensures { λ r. ⌜ r ≡ UnderData this prev side n ⌝ }
+{
+    Phase::UnderData {
+        this,
+        prev,
+        side,
+        done: n,
+    }
+}
+
+fn under_routing(
+    this: u64,
+    prev: u64,
+    side: bool,
+    before: u64,
+    up: bool,
+    other: u64,
+    n: u64,
+) -> Phase
+    ensures { λ r. ⌜ r ≡ UnderRouting this prev side before up other n ⌝ }
+{
+    Phase::UnderRouting {
+        this,
+        prev,
+        side,
+        before,
+        up,
+        other,
+        done: n,
+    }
+}
+
 // The phase with n of its actions done.
 pub fn with_done(phase: Phase, n: u64) -> Phase
     ensures { λ r. ⌜ r ≡ withDone phase n ⌝ }
@@ -115,26 +163,14 @@ pub fn with_done(phase: Phase, n: u64) -> Phase
             child,
             toward,
             ..
-        } => Phase::One {
-            this,
-            prev,
-            side,
-            child,
-            toward,
-            done: n,
-        },
+        } => one(this, prev, side, child, toward, n),
         Phase::Leaf { .. } => phase,
         Phase::UnderData {
             this,
             prev,
             side,
             ..
-        } => Phase::UnderData {
-            this,
-            prev,
-            side,
-            done: n,
-        },
+        } => under_data(this, prev, side, n),
         Phase::UnderRouting {
             this,
             prev,
@@ -143,15 +179,7 @@ pub fn with_done(phase: Phase, n: u64) -> Phase
             up,
             other,
             ..
-        } => Phase::UnderRouting {
-            this,
-            prev,
-            side,
-            before,
-            up,
-            other,
-            done: n,
-        },
+        } => under_routing(this, prev, side, before, up, other, n),
     }
 }
 

@@ -1,11 +1,14 @@
 // Measures the library's calls against plain code, in one run: ratios of times, or, under `steps count ..`, the same work for
 // valgrind to count. bench/steps builds and runs both.
+#[path = "steps_judged.rs"]
+mod judged;
 #[path = "steps_plain.rs"]
 mod plain;
 #[path = "../rust/src/raw.rs"]
 #[allow(dead_code)]
 mod raw;
 
+use judged::Judged;
 use plain::{Plain, IDLE};
 use std::collections::BTreeSet;
 use std::hint::black_box;
@@ -58,6 +61,27 @@ impl Works for PlainTable {
         self.record.start(&mut self.words, work, key);
         let mut steps = 1;
         while self.record.step(&mut self.words) == plain::GOING {
+            steps += 1;
+        }
+        steps
+    }
+
+    fn words(&self) -> &[u64] {
+        &self.words
+    }
+}
+
+#[derive(Clone)]
+struct JudgedTable {
+    words: Vec<u64>,
+    record: Judged,
+}
+
+impl Works for JudgedTable {
+    fn work(&mut self, work: u64, key: u64) -> u64 {
+        self.record.start(&mut self.words, work, key);
+        let mut steps = 1;
+        while self.record.step(&mut self.words) == judged::GOING {
             steps += 1;
         }
         steps
@@ -142,8 +166,16 @@ fn time<W: Works + Clone>(from: &W, keys: &[u64], change: bool) -> (f64, f64, Ve
     (best / steps as f64, best / works as f64, after)
 }
 
+/// Every pair decoded, and every field folded in, so that none can be left out: key, state, links, locks, busy, zeros.
 fn scan(words: &[u64]) -> u64 {
-    words.iter().fold(0, |a, w| a ^ w)
+    let mut all = 0u64;
+    for pair in words.chunks_exact(2) {
+        let w = pair[1];
+        let (links, locks) = ([w >> 52 & 1023, w >> 42 & 1023], [w >> 36 & 63, w >> 30 & 63, w >> 24 & 63]);
+        let fields = [pair[0], w >> 62, links[0], links[1], locks[0], locks[1], locks[2], w >> 19 & 31, w & 0x7ffff];
+        all = fields.iter().fold(all, |a, f| a.rotate_left(5) ^ f);
+    }
+    all
 }
 
 /// A call between steps, once.
@@ -173,36 +205,46 @@ fn time_between(call: &str, words: &[u64]) -> f64 {
 }
 
 fn times() {
-    println!("time, best of many rounds            slots   library     plain  BTreeSet   library/plain  library/BTreeSet");
+    println!(
+        "time, best of many rounds            slots   library    judged     plain  BTreeSet  \
+         library/judged  library/plain  library/BTreeSet"
+    );
     for slots in [64, 256, 1024] {
         let (l, keys) = filled(slots);
         let p = PlainTable { words: l.words.clone(), record: IDLE };
+        let j = JudgedTable { words: l.words.clone(), record: judged::IDLE };
         let t = Tree(keys.iter().copied().collect());
         for change in [false, true] {
             let name = if change { "remove or insert" } else { "lookup" };
             let (a, b, c) = (time(&l, &keys, change), time(&p, &keys, change), time(&t, &keys, change));
+            let d = time(&j, &keys, change);
             assert!(a.2 == b.2, "the plain steps left other words");
+            assert!(a.2 == d.2, "the judging steps left other words");
             println!(
-                "{:<36} {slots:5} {:6.1} ns {:6.1} ns {:>12} {:12.2}",
+                "{:<36} {slots:5} {:6.1} ns {:6.1} ns {:6.1} ns {:>22.2} {:14.2}",
                 format!("a step of a {name}"),
                 a.0,
+                d.0,
                 b.0,
-                "",
+                a.0 / d.0,
                 a.0 / b.0
             );
-            let (x, y) = (a.1 / b.1, a.1 / c.1);
             println!(
-                "{:<36} {slots:5} {:6.0} ns {:6.0} ns {:6.0} ns {x:12.2} {y:15.2}",
+                "{:<36} {slots:5} {:6.0} ns {:6.0} ns {:6.0} ns {:6.0} ns {:12.2} {:14.2} {:17.2}",
                 format!("a whole {name}"),
                 a.1,
+                d.1,
                 b.1,
-                c.1
+                c.1,
+                a.1 / d.1,
+                a.1 / b.1,
+                a.1 / c.1
             );
         }
         let base = time_between("scan", &l.words);
         for call in &CALLS[1..] {
             let t = time_between(call, &l.words);
-            println!("{call:<36} {slots:5} {t:6.0} ns {base:6.0} ns (plain: a scan of the words) {:.1}", t / base);
+            println!("{call:<36} {slots:5} {t:6.0} ns {base:6.0} ns (plain: every pair decoded) {:.1}", t / base);
         }
     }
 }
@@ -211,6 +253,7 @@ fn times() {
 fn count(who: &str, what: &str, slots: usize, n: u64) {
     let (l, keys) = filled(slots);
     let p = PlainTable { words: l.words.clone(), record: IDLE };
+    let j = JudgedTable { words: l.words.clone(), record: judged::IDLE };
     let t = Tree(keys.iter().copied().collect());
     let (change, mut words, mut out) = (what == "change", l.words.clone(), vec![0; 2 * slots]);
     let mut one = (1, 1);
@@ -218,6 +261,7 @@ fn count(who: &str, what: &str, slots: usize, n: u64) {
         match who {
             "library" => one = round(&mut l.clone(), &keys, change),
             "plain" => one = round(&mut p.clone(), &keys, change),
+            "judged" => one = round(&mut j.clone(), &keys, change),
             "btree" => one = round(&mut t.clone(), &keys, change),
             _ => one.0 = 1 + (black_box(between(what, &mut words, &mut out)) & 0),
         }

@@ -3,10 +3,10 @@ ghost use mathlib.Core.Path.{_≡_};
 ghost use lib.ListN.{length};
 ghost use Rattle.table.specs.Rules.{freshSays, freshWords};
 ghost use Rattle.tree.specs.Answers.{checkSays, listSays, listHolds, firstSays, sweepSays, sweepWords};
-ghost use Rattle.abi.specs.Numbers.{number, soundNumber};
+ghost use Rattle.calls.specs.Numbers.{number, soundNumber};
 ghost use Rattle.abi.specs.Values.{valueOr};
-use super::numbers;
-use super::numbers::FINE;
+use calls::numbers;
+use calls::numbers::FINE;
 use tree::FirstFrame;
 use tree::Listed;
 

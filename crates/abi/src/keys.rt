@@ -1,9 +1,9 @@
 // Keys: nine numbers, in the order in which they are packed.
 ghost use mathlib.Core.Path.{_≡_};
 ghost use Rattle.moment.specs.Key.{listed, packs, fieldsOf, legalOf};
-ghost use Rattle.abi.specs.Numbers.{number};
+ghost use Rattle.calls.specs.Numbers.{number};
 ghost use Rattle.abi.specs.Values.{valueOr, fieldsAt};
-use super::numbers::FINE;
+use calls::numbers::FINE;
 use moment::Fields;
 use moment::Packed;
 

@@ -2,6 +2,5 @@
 // record is eleven lent words, and an answer is one number. include/pannuqreik.h says the same for the caller.
 pub mod between;
 pub mod keys;
-mod numbers;
 pub mod texts;
 pub mod workers;

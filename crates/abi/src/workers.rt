@@ -3,42 +3,17 @@ ghost use mathlib.Core.Path.{_≡_};
 ghost use Rattle.protocol.specs.Step.{stepOf};
 ghost use Rattle.protocol.specs.Calls.{startOf, withdrawOf};
 ghost use Rattle.protocol.specs.declared.Kind.the-variants.{Lookup, Insert, Remove};
-ghost use Rattle.abi.specs.Numbers.{verdictNumber, number};
 ghost use Rattle.records.specs.Records.{workerOf};
-ghost use Rattle.abi.specs.Workers.{unreadNumber, Comes};
-use super::numbers;
+ghost use Rattle.calls.specs.Numbers.{verdictNumber, number};
+ghost use Rattle.calls.specs.Workers.{Comes};
 use protocol::Kind;
-use records::Lent;
-
-// The number where the words are no record.
-fn unread(words: &[u64]) -> u64
-    ensures { λ r. ⌜ r ≡ unreadNumber (now (words .entry)) ⌝ }
-{
-    if table::table_fine(words) { 6 } else { 1 }
-}
-
-fn start(words: &mut [u64], lent: &mut [u64], kind: Kind, key: u64) -> u64
-    ensures { λ r. ⌜ Comes number (now (words .entry)) (now (lent .entry)) (startOf (now (words .entry)) (workerOf (now (lent .entry))) kind key) r (now (lent .exit)) (now (words .exit)) ⌝ }
-{
-    let r = records::read(lent);
-    match r {
-        Lent::Nothing => unread(words),
-        Lent::Record(w) => {
-            let s = worker::start(words, w, kind, key);
-            let after = s.worker;
-            let reply = s.reply;
-            records::put(lent, after);
-            numbers::of_reply(reply)
-        }
-    }
-}
 
 // Begins a lookup of a key; or 1, 6 (no record), 2, 3, 4.
 #[no_mangle]
 pub extern "C" fn pannuqreik_start_lookup(words: &mut [u64], lent: &mut [u64], key: u64) -> u64
     ensures { λ r. ⌜ Comes number (now (words .entry)) (now (lent .entry)) (startOf (now (words .entry)) (workerOf (now (lent .entry))) Lookup key) r (now (lent .exit)) (now (words .exit)) ⌝ }
 {
-    start(words, lent, Kind::Lookup, key)
+    calls::start(words, lent, Kind::Lookup, key)
 }
 
 // Begins an insert of a key; or 1, 6 (no record), 2, 3, 4.
@@ -46,7 +21,7 @@ pub extern "C" fn pannuqreik_start_lookup(words: &mut [u64], lent: &mut [u64], k
 pub extern "C" fn pannuqreik_start_insert(words: &mut [u64], lent: &mut [u64], key: u64) -> u64
     ensures { λ r. ⌜ Comes number (now (words .entry)) (now (lent .entry)) (startOf (now (words .entry)) (workerOf (now (lent .entry))) Insert key) r (now (lent .exit)) (now (words .exit)) ⌝ }
 {
-    start(words, lent, Kind::Insert, key)
+    calls::start(words, lent, Kind::Insert, key)
 }
 
 // Begins a remove of a key; or 1, 6 (no record), 2, 3, 4.
@@ -54,7 +29,7 @@ pub extern "C" fn pannuqreik_start_insert(words: &mut [u64], lent: &mut [u64], k
 pub extern "C" fn pannuqreik_start_remove(words: &mut [u64], lent: &mut [u64], key: u64) -> u64
     ensures { λ r. ⌜ Comes number (now (words .entry)) (now (lent .entry)) (startOf (now (words .entry)) (workerOf (now (lent .entry))) Remove key) r (now (lent .exit)) (now (words .exit)) ⌝ }
 {
-    start(words, lent, Kind::Remove, key)
+    calls::start(words, lent, Kind::Remove, key)
 }
 
 // One step: 0 going, 16 yes, 17 no, 5 Full; or 1, 6 (no record), 2, 6, 9.
@@ -62,17 +37,7 @@ pub extern "C" fn pannuqreik_start_remove(words: &mut [u64], lent: &mut [u64], k
 pub extern "C" fn pannuqreik_step(words: &mut [u64], lent: &mut [u64]) -> u64
     ensures { λ r. ⌜ Comes verdictNumber (now (words .entry)) (now (lent .entry)) (stepOf (now (words .entry)) (workerOf (now (lent .entry)))) r (now (lent .exit)) (now (words .exit)) ⌝ }
 {
-    let r = records::read(lent);
-    match r {
-        Lent::Nothing => unread(words),
-        Lent::Record(w) => {
-            let s = worker::step(words, w);
-            let moved = s.worker;
-            let answer = s.answer;
-            records::put(lent, moved);
-            numbers::of_answer(answer)
-        }
-    }
+    calls::step(words, lent)
 }
 
 // Gives up locks and seat of a work that has not stored yet; or 1, 6 (no record), 2, 6, 7.
@@ -80,15 +45,5 @@ pub extern "C" fn pannuqreik_step(words: &mut [u64], lent: &mut [u64]) -> u64
 pub extern "C" fn pannuqreik_withdraw(words: &mut [u64], lent: &mut [u64]) -> u64
     ensures { λ r. ⌜ Comes number (now (words .entry)) (now (lent .entry)) (withdrawOf (now (words .entry)) (workerOf (now (lent .entry)))) r (now (lent .exit)) (now (words .exit)) ⌝ }
 {
-    let r = records::read(lent);
-    match r {
-        Lent::Nothing => unread(words),
-        Lent::Record(w) => {
-            let s = worker::withdraw(words, w);
-            let left = s.worker;
-            let said = s.reply;
-            records::put(lent, left);
-            numbers::of_reply(said)
-        }
-    }
+    calls::withdraw(words, lent)
 }

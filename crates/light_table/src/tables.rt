@@ -2,6 +2,7 @@
 use super::runs;
 use super::telling::tell;
 use protocol::Kind;
+use protocol::Worker;
 
 // A < B < C < D, legal keys.
 const A: u64 = 0x7E867A7A1C004065;
@@ -145,18 +146,23 @@ fn swept(words: &mut [u64]) {
 pub fn two_inserts() {
     let mut words = [7u64; 4];
     table::fresh(&mut words);
-    let a0 = worker::start(&mut words, runs::idle(), Kind::Insert, A);
-    let b0 = worker::start(&mut words, runs::idle(), Kind::Insert, B);
-    let a1 = worker::step(&mut words, a0.worker);
-    let b1 = worker::step(&mut words, b0.worker);
+    let a = worker::start(&mut words, runs::idle(), Kind::Insert, A);
+    let b = worker::start(&mut words, runs::idle(), Kind::Insert, B);
+    in_turns(&mut words, a.worker, b.worker);
+}
+
+// Two works that have just begun, a step of the one and a step of the other.
+fn in_turns(words: &mut [u64; 4], a: Worker, b: Worker) {
+    let a1 = worker::step(words, a);
+    let b1 = worker::step(words, b);
     tell(
         b"two inserts end their walks under the fresh root",
         (runs::place(a1.worker) == 1) & (runs::place(b1.worker) == 1),
     );
-    worker::step(&mut words, a1.worker);
-    let b2 = worker::step(&mut words, b1.worker);
+    worker::step(words, a1.worker);
+    let b2 = worker::step(words, b1.worker);
     tell(
         b"one locks, the other's next step restarts",
-        (runs::place(b2.worker) == 0) & runs::are(&words, &[ROOT, 0x4000000040100000, 0, 0]),
+        (runs::place(b2.worker) == 0) & runs::are(words, &[ROOT, 0x4000000040100000, 0, 0]),
     );
 }

@@ -2,14 +2,15 @@
 -- Assumes nothing.
 use mathlib.Core.Path.{_≡_, sym, _∙_}
 use mathlib.Core.Bool.{true, false, _||_}
-use mathlib.Core.List.{List, [], _∷_, _++_}
-use Prim.Native.Nat.{ℕ, suc, _+_, _≤_, _<_}
+use mathlib.Core.List.{List, [], _∷_}
+use Prim.Native.Nat.{ℕ, _+_, _≤_, _<_}
 use native.Mathlib.Nat.{add-zero, add-suc, suc-add}
 use native.Mathlib.Numerals.{add-one}
 use native.Mathlib.Omega.{arith}
 use lib.Dec.{eqb}
 use lib.ListN.{length, take, drop, getD, set, drop-of-length-le}
 use lib.Seq.{sets, drop-cons, take-suc, length-take-le}
+use Rattle.layout.proofs.FillLaws.{sets-append}
 use Rattle.lines.specs.Line.{has}
 use Rattle.lines.specs.Ends.{oneLine, endOf}
 
@@ -23,10 +24,6 @@ unfolding has
 has-none x s i h = rw (drop-of-length-le s {i = i} h)
 
 -- BYTES PUT ONE AFTER THE OTHER
-pub sets-append : (xs ys l : List ℕ) (i : ℕ) → sets l i (xs ++ ys) ≡ sets (sets l i xs) (i + length xs) ys
-sets-append [] ys l i = rw add-zero
-sets-append (x ∷ xs) ys l i = rw (add-suc, ← suc-add) (sets-append xs ys (set l i x) (suc i))
-
 pub copy-more : (d s : List ℕ) (at i : ℕ) → i < length s → set (sets d at (take i s)) (at + i) (getD s i 0) ≡ sets d at (take (i + 1) s)
 copy-more d s at i h =
     let n = length-take-le i s (omega arith) in

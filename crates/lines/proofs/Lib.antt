@@ -1,11 +1,8 @@
 pub mod Bytes
 pub mod Scanning
-pub mod Puts
 pub mod Texts
 pub mod Numbers
 pub mod Feeding
 pub mod Pieces
-pub mod Laws
 pub mod Forms
 pub mod OneOutcome
-pub mod Examples

@@ -1,30 +1,22 @@
 -- For every input each promise leaves one answer, and one content of the buffer: any two that it allows are equal.
 -- Assumes nothing.
-use mathlib.Core.Path.{_≡_, sym, ap, _∙_}
+use mathlib.Core.Path.{_≡_, sym, _∙_}
 use mathlib.Core.Bool.{Bool}
 use mathlib.Core.List.{List}
 use Prim.Native.Nat.{ℕ}
 use Rattle.lines.specs.Line.{lineSays, lineReadSays}
 use Rattle.lines.specs.Feeding.{begun, fedLine, fedKept, heldLine}
 use Rattle.lines.specs.Ends.{endOf}
-use Rattle.lines.specs.Printing.{Put, frameLineSays, putsFrame, frameHolds, roomFor, appended}
+use Rattle.lines.specs.Room.{roomFor, appended}
 use Rattle.lines.specs.declared.Line.{Line}
 use Rattle.lines.specs.declared.LineRead.{LineRead}
 use Rattle.lines.specs.declared.LineRead.the-variants.{Key, Refused}
-use Rattle.lines.specs.declared.output.FrameLine.{FrameLine}
-use Rattle.lines.specs.declared.output.FrameLine.the-variants.{Bytes, Refused as FrameRefused}
 
 line-same : (a b : LineRead) → lineReadSays a ≡ lineReadSays b → a ≡ b
 line-same (Key m) (Key n) e = cc
 line-same (Key m) (Refused n) e = cc
 line-same (Refused m) (Key n) e = cc
 line-same (Refused m) (Refused n) e = cc
-
-frame-same : (a b : FrameLine) (x : List ℕ) → frameLineSays a x ≡ frameLineSays b x → a ≡ b
-frame-same (Bytes m) (Bytes n) x e = let pair : _≡_ {A = ℕ × List ℕ} (m, x) (n, x) = cc in ap (λ (p : ℕ × List ℕ). Bytes (p .0)) pair
-frame-same (Bytes m) (FrameRefused n) x e = cc
-frame-same (FrameRefused m) (Bytes n) x e = cc
-frame-same (FrameRefused m) (FrameRefused n) x e = cc
 
 pub read-line-one : (line : List ℕ) (a b : LineRead) → lineReadSays a ≡ lineSays line → lineReadSays b ≡ lineSays line → a ≡ b
 read-line-one line a b p q = line-same a b (p ∙ sym q)
@@ -42,17 +34,6 @@ finish-one l kept a b p q = line-same a b (p ∙ sym q)
 
 pub line-end-one : (s : List ℕ) (at a b : ℕ) → a ≡ endOf s at → b ≡ endOf s at → a ≡ b
 line-end-one s at a b p q = p ∙ sym q
-
-pub frame-line-one : (out : List ℕ) (place key : ℕ) (a b : FrameLine) (x y : List ℕ)
-    → (frameLineSays a x ≡ putsFrame out place key) × (x ≡ frameHolds (putsFrame out place key) out)
-    → (frameLineSays b y ≡ putsFrame out place key) × (y ≡ frameHolds (putsFrame out place key) out) → (a ≡ b) × (x ≡ y)
-frame-line-one out place key a b x y p q =
-    let same = p .1 ∙ sym (q .1) in
-    (frame-same a b x (p .0 ∙ sym (rw same (q .0))), same)
-
--- `refused_line` and `already_line`, whatever bytes xs they put
-pub put-one : (out : List ℕ) (at : ℕ) (xs : List ℕ) (a b : ℕ) (x y : List ℕ) → Put out at xs a x → Put out at xs b y → (a ≡ b) × (x ≡ y)
-put-one out at xs a b x y p q = (p .next ∙ sym (q .next), p .holds ∙ sym (q .holds))
 
 pub append-one : (out : List ℕ) (at : ℕ) (line : List ℕ) (a b : Bool) (x y : List ℕ) → (a ≡ roomFor out at line) × (x ≡ appended out at line)
     → (b ≡ roomFor out at line) × (y ≡ appended out at line) → (a ≡ b) × (x ≡ y)

@@ -1,24 +1,18 @@
--- The text of a line: read with one NUL behind it, and written without it.
+-- The text of a line, read with one NUL behind it.
 -- Assumes nothing.
-use mathlib.Core.Path.{_≡_, refl, sym, ap, _∙_}
-use mathlib.Core.Bool.{true}
-use mathlib.Core.List.{List, _∷_, _++_, append-assoc}
+use mathlib.Core.Path.{_≡_, sym, ap, _∙_}
+use mathlib.Core.List.{List, _∷_, _++_}
 use Prim.Native.Nat.{ℕ, _+_, _≤_, _<_}
 use native.Mathlib.Omega.{arith}
 use native.Mathlib.Nat.{zero-add}
 use native.Mathlib.Numerals.{add-one}
-use lib.ListN.{length, set, take, drop, replicate, length-append, getD-replicate}
-use lib.Seq.{set-set, drop-drop, sets, sets-eq, length-sets, drop-cons, take-append-add}
+use lib.ListN.{length, take, drop, replicate, length-append, getD-replicate}
+use lib.Seq.{sets, sets-eq, length-sets, drop-cons, take-append-add}
 use Rattle.moment.specs.Said.{refuses}
-use Rattle.moment.specs.Key.{momentOf, fieldsOf, legalOf}
 use Rattle.moment.specs.declared.Moment.{Moment}
-use Rattle.exif.specs.Forms.{blank, nul, one, two, four, text, twoDigitHour, blankHour, oneDigitHour, oneDigitHourTwoNuls, HasForm, two-digits, blank-and-digit, one-digit, one-digit-two-nuls, UnknownTime, all-blanks, four-colons}
+use Rattle.exif.specs.Forms.{nul, one, two, four, text, twoDigitHour, blankHour, oneDigitHour, oneDigitHourTwoNuls, HasForm, two-digits, blank-and-digit, one-digit, one-digit-two-nuls, UnknownTime, all-blanks, four-colons}
 use Rattle.exif.specs.Reading.{readsText, reads, textSays}
 use Rattle.exif.specs.declared.TextRead.{TextRead}
-use Rattle.lines.specs.Printing.{textOf, Put}
-use Rattle.lines.proofs.Bytes.{sets-append}
-use Rattle.exif.specs.Writing.{putText, writes, leaves}
-use Rattle.exif.proofs.Writing.{written}
 use Rattle.exif.proofs.Texts.{else-ten, within-read}
 
 -- a capture text has at most twenty bytes, and so has the text of an unknown time
@@ -52,34 +46,3 @@ text-behind t h =
 pub text-judged : (t b : List ℕ) (r : TextRead) → b ≡ sets (replicate 20 0) 0 t → length t ≤ 19 → textSays r ≡ reads b 0 (length t + 1)
     → readsText (t ++ nul) ≡ textSays r
 text-judged t b r e h s = sym (s ∙ ap (λ (z : List ℕ). reads z 0 (length t + 1)) e ∙ text-behind t h)
-
--- THE TEXT WRITTEN
-pub text-nul : (key : ℕ) → twoDigitHour (momentOf (fieldsOf key)) ≡ textOf key ++ nul
-unfolding textOf twoDigitHour text two four
-text-nul key = refl
-
-pub text-length : (key : ℕ) → length (textOf key) ≡ 19
-unfolding textOf text two four
-text-length key = refl
-
-pub text-blank : (key : ℕ) → length (textOf key ++ blank) ≡ 20
-text-blank key = simp (length-append, text-length key)
-
-put-sets : (o : List ℕ) (at : ℕ) (t : List ℕ) → length t ≡ 20 → at + 20 ≤ length o → putText o at t ≡ sets o at t
-unfolding putText
-put-sets o at t n h = rw (drop-drop 20 at o) (sym (sets-eq t o at (omega arith) ∙ simp (n, append-assoc)))
-
--- the blank takes the place of its NUL
-pub text-put : (o : List ℕ) (at key : ℕ) (o₁ : List ℕ) → at + 20 ≤ length o → legalOf key ≡ true → o₁ ≡ leaves (writes o at key) o
-    → Put o at (textOf key ++ blank) (at + 20) (set o₁ (at + 19) 32)
-text-put o at key o₁ h l e =
-    let t = textOf key in
-    let n = text-length key in
-    let w : o₁ ≡ putText o at (twoDigitHour (momentOf (fieldsOf key))) = rw (written o at key l h) at e in
-    let p : sets o at (t ++ nul) ≡ set (sets o at t) (at + 19) 0 = rw (sets-append t nul o at, n) in
-    let q = put-sets o at (t ++ nul) (simp (length-append, n)) h in
-    record {
-      next = simp (length-append, n);
-      holds = ap (λ (z : List ℕ). set z (at + 19) 32) (w ∙ ap (putText o at) (text-nul key) ∙ q ∙ p)
-          ∙ set-set (sets o at t) (at + 19) 0 32 ∙ rw (sets-append t blank o at, n);
-    }

@@ -1,4 +1,4 @@
 pub mod Line
 pub mod Feeding
 pub mod Ends
-pub mod Printing
+pub mod Room

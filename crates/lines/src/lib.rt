@@ -1,5 +1,5 @@
-// The lines of the sorting program as bytes: what an input line says, fed in pieces of any size, and in `output` the
-// bytes of the lines that are printed. Every public function answers for any bytes and numbers.
+// The lines of the sorting program as bytes: what an input line says, fed in pieces of any size, where a line ends, and
+// bytes put behind others. Every public function answers for any bytes and numbers.
 ghost use mathlib.Core.Path.{_≡_};
 ghost use mathlib.Core.List.{_++_};
 ghost use Prim.Native.Nat.{_+_, _≤_};
@@ -10,12 +10,11 @@ ghost use Rattle.exif.specs.Reading.{isDigit};
 ghost use Rattle.lines.specs.Line.{has, frontOf, numberSays, nextOf, form, withNumber, fieldsFor, formSays, lineSays, lineReadSays};
 ghost use Rattle.lines.specs.Feeding.{begun, fedLine, fedKept, heldLine};
 ghost use Rattle.lines.specs.Ends.{endOf};
+ghost use Rattle.lines.specs.Room.{roomFor, appended};
 use exif::TextRead;
 use moment::Fields;
 use moment::Moment;
 use moment::Packed;
-
-pub mod output;
 
 // How many bytes of a line are kept: two numbers with their blanks, and one byte more than a capture text can have.
 const KEPT: usize = 32;
@@ -231,4 +230,18 @@ pub fn line_end(s: &[u8], at: usize) -> usize
         i += 1;
     }
     i
+}
+
+// Puts a line's bytes at a place of a buffer; answers whether there was room, and without room nothing changes.
+pub fn append(out: &mut [u8], at: usize, line: &[u8]) -> bool
+    ensures { λ r. ⌜ (r ≡ roomFor (now (out .entry)) at (now (line .entry))) × (now (out .exit) ≡ appended (now (out .entry)) at (now (line .entry))) ⌝ }
+{
+    if out.len() < at {
+        return false;
+    }
+    if out.len() - at < line.len() {
+        return false;
+    }
+    copy(out, at, line);
+    true
 }

@@ -6,8 +6,6 @@ use mathlib.Core.List.{List}
 use Prim.Native.Nat.{ℕ}
 use Rattle.table.specs.declared.Which.{Which}
 use Rattle.protocol.specs.Locks.{Did, allHeld, released, giveUp, lockStep}
-use Rattle.protocol.specs.Step.{leave}
-use Rattle.protocol.specs.Calls.{seated}
 use Rattle.protocol.specs.declared.Phase.{Phase}
 use Rattle.protocol.specs.declared.Links.{Links}
 use Rattle.protocol.specs.declared.Outcome.{Outcome}
@@ -17,12 +15,6 @@ all-held-one ws phase done a b p q = p ∙ sym q
 
 pub release-all-one : (ws : List ℕ) (phase : Phase) (done : ℕ) (a b : List ℕ) → a ≡ released ws phase done → b ≡ released ws phase done → a ≡ b
 release-all-one ws phase done a b p q = p ∙ sym q
-
-pub leave-seat-one : (ws : List ℕ) (a b : List ℕ) → a ≡ leave ws → b ≡ leave ws → a ≡ b
-leave-seat-one ws a b p q = p ∙ sym q
-
-pub take-seat-one : (ws : List ℕ) (a b : List ℕ) → a ≡ seated ws → b ≡ seated ws → a ≡ b
-take-seat-one ws a b p q = p ∙ sym q
 
 -- an outcome a, b with the words x, y
 did-one : (d : Did) (a b : Outcome) (x y : List ℕ) → (a ≡ d .said) × (x ≡ d .words) → (b ≡ d .said) × (y ≡ d .words) → (a ≡ b) × (x ≡ y)

@@ -1,10 +1,8 @@
-// Locks and seats: taking a lock, giving up all locks held, taking and leaving a seat. Each function takes any words and
-// any phase, and promises the protocol's definition.
+// Locks: taking one, and giving up all that are held. Each function takes any words and any phase, and promises the
+// protocol's definition.
 ghost use mathlib.Core.Path.{_≡_};
 ghost use Prim.Native.Nat.{ℕ, _-_};
 ghost use Rattle.protocol.specs.Locks.{stateFits, linksFit, clear, holds, weight, crowded, granted, heldOne, releaseOne, allHeld, released, giveUp, lockStep};
-ghost use Rattle.protocol.specs.Step.{leave};
-ghost use Rattle.protocol.specs.Calls.{seated};
 use plan::PRESENT;
 use protocol::Action;
 use protocol::Links;
@@ -160,20 +158,4 @@ pub fn lock_step(
     let y = x + weight_of(write);
     table::set_lock(words, slot, which, y);
     Outcome::Goes(next)
-}
-
-pub fn leave_seat(words: &mut [u64])
-    ensures { λ _. ⌜ now (words .exit) ≡ leave (now (words .entry)) ⌝ }
-{
-    let b = table::busy(words);
-    let c = less(b, 1);
-    table::set_busy(words, c);
-}
-
-pub fn take_seat(words: &mut [u64])
-    ensures { λ _. ⌜ now (words .exit) ≡ seated (now (words .entry)) ⌝ }
-{
-    let b = table::busy(words);
-    let c = b + 1;
-    table::set_busy(words, c);
 }

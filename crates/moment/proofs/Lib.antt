@@ -1,5 +1,6 @@
 pub mod Tests
 pub mod Ranges
+pub mod Quick
 pub mod Packing
 pub mod Days
 pub mod Order

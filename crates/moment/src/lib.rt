@@ -1,6 +1,8 @@
 // What a key is: the nine fields of a frame, legal by the Gregorian calendar, packed into one number from the top bit
 // down. Nothing here refuses by itself but `pack`, and every function answers for any numbers.
 ghost use mathlib.Core.Path.{_≡_};
+ghost use mathlib.Core.Bool.{_&&_};
+ghost use lib.Dec.{leb};
 ghost use Rattle.moment.specs.Calendar.{leapOf, daysIn, dateExists, timeExists, momentExists};
 ghost use Rattle.moment.specs.Key.{keyLayout, listed, momentOf, inRange, keyOfFields, packs, packedSays, fieldsOf, legalOf};
 ghost use Rattle.layout.specs.Layout.{Fit};
@@ -34,6 +36,28 @@ pub enum Packed {
     Refused(u64),
 }
 
+// Where the fields begin in a key, from the top bit down; the file number begins at 1.
+const YEAR: u64 = 4503599627370496;
+
+const MONTH: u64 = 281474976710656;
+
+const DAY: u64 = 8796093022208;
+
+const HOUR: u64 = 274877906944;
+
+const MINUTE: u64 = 4294967296;
+
+const SECOND: u64 = 67108864;
+
+const HUNDREDTH: u64 = 524288;
+
+const CAMERA: u64 = 16384;
+
+// The first key of 1990, and of 3000.
+const FIRST: u64 = 8962163258467287040;
+
+const BEYOND: u64 = 13510798882111488000;
+
 // Is it a leap year?
 pub fn leap(year: u64) -> bool
     ensures { λ r. ⌜ r ≡ leapOf year ⌝ }
@@ -53,11 +77,21 @@ pub fn days_in(year: u64, month: u64) -> u64
     }
 }
 
+// Has the month that day? Every month has the first 28.
+fn day_exists(year: u64, month: u64, day: u64) -> bool
+    ensures { λ r. ⌜ r ≡ (leb 1 day && leb day (daysIn year month)) ⌝ }
+{
+    if (1 <= day) & (day <= 28) {
+        return (1 <= month) & (month <= 12);
+    }
+    (28 < day) & (day <= days_in(year, month))
+}
+
 // Is it a Gregorian date of the years 1990 to 2999?
 pub fn date_exists(year: u64, month: u64, day: u64) -> bool
     ensures { λ r. ⌜ r ≡ dateExists year month day ⌝ }
 {
-    (1990 <= year) & (year <= 2999) & (1 <= day) & (day <= days_in(year, month))
+    (1990 <= year) & (year <= 2999) & day_exists(year, month, day)
 }
 
 // Is it a time of day?
@@ -120,21 +154,29 @@ pub fn unpack(key: u64) -> Fields
     ensures { λ r. ⌜ r ≡ fieldsOf key ⌝ }
 {
     Fields {
-        year: key / 4503599627370496 % 4096,
-        month: key / 281474976710656 % 16,
-        day: key / 8796093022208 % 32,
-        hour: key / 274877906944 % 32,
-        minute: key / 4294967296 % 64,
-        second: key / 67108864 % 64,
-        hundredth: key / 524288 % 128,
-        camera: key / 16384 % 32,
+        year: key / YEAR % 4096,
+        month: key / MONTH % 16,
+        day: key / DAY % 32,
+        hour: key / HOUR % 32,
+        minute: key / MINUTE % 64,
+        second: key / SECOND % 64,
+        hundredth: key / HUNDREDTH % 128,
+        camera: key / CAMERA % 32,
         number: key % 16384,
     }
 }
 
-// Is the key legal?
+// Is the key legal? The years are bounds of the key itself, and the camera's bits hold none that is out of range.
 pub fn legal(key: u64) -> bool
     ensures { λ r. ⌜ r ≡ legalOf key ⌝ }
 {
-    in_range(unpack(key))
+    let time = time_exists(key / HOUR % 32, key / MINUTE % 64, key / SECOND % 64);
+    if !((FIRST <= key)
+        & (key < BEYOND)
+        & time
+        & (key / HUNDREDTH % 128 < 100)
+        & (key % 16384 < 10000)) {
+        return false;
+    }
+    day_exists(key / YEAR % 4096, key / MONTH % 16, key / DAY % 32)
 }

@@ -1,3 +1,3 @@
-pub mod LegalLaws
+pub mod LiftLaws
 pub mod RoleLaws
 pub mod OneOutcome

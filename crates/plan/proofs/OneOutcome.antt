@@ -6,10 +6,9 @@ use mathlib.Core.List.{List}
 use Prim.Native.Nat.{ℕ}
 use Rattle.protocol.specs.Plan.{actionAt, atRoot, doneOf, withDone}
 use Rattle.protocol.specs.Record.{recordFine}
-use Rattle.protocol.specs.Calls.{stored, idle}
+use Rattle.protocol.specs.Calls.{stored}
 use Rattle.protocol.specs.declared.Kind.{Kind}
 use Rattle.protocol.specs.declared.Kind.the-variants.{Lookup}
-use Rattle.protocol.specs.declared.Work.{Work}
 use Rattle.protocol.specs.declared.Phase.{Phase}
 use Rattle.protocol.specs.declared.Phase.the-variants.{Walk}
 use Rattle.protocol.specs.declared.Action.{Action}
@@ -28,9 +27,6 @@ with-done-one phase n a b p q = p ∙ sym q
 
 pub has-stored-one : (phase : Phase) (done : ℕ) (a b : Bool) → a ≡ stored phase done → b ≡ stored phase done → a ≡ b
 has-stored-one phase done a b p q = p ∙ sym q
-
-pub is-idle-one : (work : Work) (a b : Bool) → a ≡ idle work → b ≡ idle work → a ≡ b
-is-idle-one work a b p q = p ∙ sym q
 
 pub record-fine-one : (ws : List ℕ) (kind : Kind) (key : ℕ) (phase : Phase) (a b : Bool) → a ≡ recordFine ws kind key phase → b ≡ recordFine ws kind key phase → a ≡ b
 record-fine-one ws kind key phase a b p q = p ∙ sym q

@@ -1,10 +1,12 @@
 // The plan of each case, one function a case in document 01's order.
 ghost use mathlib.Core.Path.{_≡_};
 ghost use Rattle.protocol.specs.Plan.{actionAt, writeEdge, readEdge, writeState, readState};
+ghost use Rattle.plan.specs.Lifts.{Lifts};
 ghost use Rattle.protocol.specs.declared.Phase.the-variants.{Walk, OnRouting, New, Two, One, Leaf, UnderData, UnderRouting};
 use crate::PRESENT;
 use protocol::Action;
 use protocol::Links;
+use protocol::Phase;
 use table::DATA;
 use table::DELETED;
 use table::ROUTING;
@@ -155,6 +157,32 @@ pub fn under_routing_at(
         6 => Action::Mark(prev, DELETED),
         7 => Action::Link(before, up, other),
         8 => Action::End,
+        _ => Action::Beyond,
+    }
+}
+
+// The action at a place, of a phase that lifts a child.
+pub fn lifting_at(phase: Phase, i: u64) -> Action
+    ensures { λ r. ⌜ (Lifts phase → r ≡ actionAt phase i) ⌝ }
+{
+    match phase {
+        Phase::One {
+            this,
+            prev,
+            side,
+            child,
+            toward,
+            ..
+        } => one_at(this, prev, side, child, toward, i),
+        Phase::UnderRouting {
+            this,
+            prev,
+            side,
+            before,
+            up,
+            other,
+            ..
+        } => under_routing_at(this, prev, side, before, up, other, i),
         _ => Action::Beyond,
     }
 }

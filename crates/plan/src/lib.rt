@@ -4,13 +4,13 @@ ghost use mathlib.Core.Path.{_≡_};
 ghost use mathlib.Core.Bool.{true};
 ghost use Rattle.protocol.specs.Plan.{atRoot, actionAt, doneOf, withDone, isStore};
 ghost use Rattle.protocol.specs.Record.{recordFine};
-ghost use Rattle.protocol.specs.Calls.{idle, stored};
+ghost use Rattle.protocol.specs.Calls.{stored};
 ghost use Rattle.protocol.specs.declared.Kind.the-variants.{Lookup};
-ghost use Rattle.protocol.specs.declared.Phase.the-variants.{Walk, One, UnderData, UnderRouting};
+ghost use Rattle.protocol.specs.declared.Phase.the-variants.{Walk};
+ghost use Rattle.plan.specs.Lifts.{Lifts};
 use protocol::Action;
 use protocol::Kind;
 use protocol::Phase;
-use protocol::Work;
 
 mod cases;
 mod roles;
@@ -33,14 +33,6 @@ pub fn action_at(phase: Phase, i: u64) -> Action
         Phase::OnRouting { this, .. } => cases::on_routing_at(this, i),
         Phase::New { prev, side, .. } => cases::new_at(prev, side, i),
         Phase::Two { this, .. } => cases::two_at(this, i),
-        Phase::One {
-            this,
-            prev,
-            side,
-            child,
-            toward,
-            ..
-        } => cases::one_at(this, prev, side, child, toward, i),
         Phase::Leaf {
             this,
             prev,
@@ -54,15 +46,7 @@ pub fn action_at(phase: Phase, i: u64) -> Action
             side,
             ..
         } => cases::under_data_at(this, prev, side, i),
-        Phase::UnderRouting {
-            this,
-            prev,
-            side,
-            before,
-            up,
-            other,
-            ..
-        } => cases::under_routing_at(this, prev, side, before, up, other, i),
+        _ => cases::lifting_at(phase, i),
     }
 }
 
@@ -84,62 +68,13 @@ pub fn done_of(phase: Phase) -> u64
     ensures { λ r. ⌜ r ≡ doneOf phase ⌝ }
 {
     match phase {
-        Phase::Walk { .. } => 0,
         Phase::OnRouting { done, .. } => done,
         Phase::New { done, .. } => done,
         Phase::Two { done, .. } => done,
         Phase::One { done, .. } => done,
-        Phase::Leaf { .. } => 0,
         Phase::UnderData { done, .. } => done,
         Phase::UnderRouting { done, .. } => done,
-    }
-}
-
-// A remover's phases, with n of their actions done.
-
-fn one(this: u64, prev: u64, side: bool, child: u64, toward: bool, n: u64) -> Phase
-    ensures { λ r. ⌜ r ≡ One this prev side child toward n ⌝ }
-{
-    Phase::One {
-        this,
-        prev,
-        side,
-        child,
-        toward,
-        done: n,
-    }
-}
-
-fn under_data(this: u64, prev: u64, side: bool, n: u64) -> Phase
-    ensures { λ r. ⌜ r ≡ UnderData this prev side n ⌝ }
-{
-    Phase::UnderData {
-        this,
-        prev,
-        side,
-        done: n,
-    }
-}
-
-fn under_routing(
-    this: u64,
-    prev: u64,
-    side: bool,
-    before: u64,
-    up: bool,
-    other: u64,
-    n: u64,
-) -> Phase
-    ensures { λ r. ⌜ r ≡ UnderRouting this prev side before up other n ⌝ }
-{
-    Phase::UnderRouting {
-        this,
-        prev,
-        side,
-        before,
-        up,
-        other,
-        done: n,
+        _ => 0,
     }
 }
 
@@ -156,6 +91,27 @@ pub fn with_done(phase: Phase, n: u64) -> Phase
             done: n,
         },
         Phase::Two { this, .. } => Phase::Two { this, done: n },
+        Phase::Leaf { .. } => phase,
+        Phase::UnderData {
+            this,
+            prev,
+            side,
+            ..
+        } => Phase::UnderData {
+            this,
+            prev,
+            side,
+            done: n,
+        },
+        _ => lifting_done(phase, n),
+    }
+}
+
+// The same of a phase that lifts a child.
+fn lifting_done(phase: Phase, n: u64) -> Phase
+    ensures { λ r. ⌜ (Lifts phase → r ≡ withDone phase n) ⌝ }
+{
+    match phase {
         Phase::One {
             this,
             prev,
@@ -163,14 +119,14 @@ pub fn with_done(phase: Phase, n: u64) -> Phase
             child,
             toward,
             ..
-        } => one(this, prev, side, child, toward, n),
-        Phase::Leaf { .. } => phase,
-        Phase::UnderData {
+        } => Phase::One {
             this,
             prev,
             side,
-            ..
-        } => under_data(this, prev, side, n),
+            child,
+            toward,
+            done: n,
+        },
         Phase::UnderRouting {
             this,
             prev,
@@ -179,7 +135,16 @@ pub fn with_done(phase: Phase, n: u64) -> Phase
             up,
             other,
             ..
-        } => under_routing(this, prev, side, before, up, other, n),
+        } => Phase::UnderRouting {
+            this,
+            prev,
+            side,
+            before,
+            up,
+            other,
+            done: n,
+        },
+        _ => phase,
     }
 }
 
@@ -187,14 +152,10 @@ fn is_store(a: Action) -> bool
     ensures { λ r. ⌜ r ≡ isStore a ⌝ }
 {
     match a {
-        Action::Visit(..) => false,
-        Action::Look(..) => false,
-        Action::Lock(..) => false,
         Action::Mark(..) => true,
         Action::Link(..) => true,
         Action::Take(..) => true,
-        Action::End => false,
-        Action::Beyond => false,
+        _ => false,
     }
 }
 
@@ -212,15 +173,6 @@ pub fn has_stored(phase: Phase, done: u64) -> bool
     any
 }
 
-pub fn is_idle(work: Work) -> bool
-    ensures { λ r. ⌜ r ≡ idle work ⌝ }
-{
-    match work {
-        Work::Idle => true,
-        Work::Busy(_) => false,
-    }
-}
-
 // Is a busy record undamaged, and a worker counted busy?
 pub fn record_fine(words: &[u64], kind: Kind, key: u64, phase: Phase) -> bool
     ensures { λ r. ⌜ r ≡ recordFine (now (words .entry)) kind key phase ⌝ }
@@ -233,11 +185,7 @@ pub fn record_fine(words: &[u64], kind: Kind, key: u64, phase: Phase) -> bool
 pub fn walk_fine(words: &[u64], key: u64, at: u64, prev: u64, before: u64) -> bool
     ensures { λ r. ⌜ r ≡ recordFine (now (words .entry)) Lookup key (Walk at prev before true true) ⌝ }
 {
-    if !roles::is_legal(key) {
-        return false;
-    }
-    if !roles::walk_roles(table::slots(words), at, prev, before) {
-        return false;
-    }
-    table::busy(words) != 0
+    moment::legal(key)
+        & roles::walk_roles(table::slots(words), at, prev, before)
+        & (table::busy(words) != 0)
 }

@@ -1,14 +1,16 @@
 -- Laws of the folds over the plan (locks held, locks given up, stores done), and of the search for a slot: one more, none.
 -- Assumes nothing.
-use mathlib.Core.Path.{_≡_, refl}
-use mathlib.Core.Bool.{Bool, true, false, _&&_, _||_}
+use mathlib.Core.Path.{_≡_, refl, ap}
+use mathlib.Core.Bool.{Bool, true, false, cond, _&&_, _||_}
 use mathlib.Core.List.{List}
-use Prim.Native.Nat.{ℕ, suc, _+_, _-_, _≤_, _<_}
+use Prim.Native.Nat.{ℕ, zero, suc, _+_, _-_, _<_}
 use native.Mathlib.Omega.{arith}
 use native.Mathlib.Numerals.{add-one}
+use Rattle.table.specs.Free as Free
+use Rattle.table.specs.Pair.{slotsOf}
 use Rattle.protocol.specs.Plan.{actionAt, isStore}
 use Rattle.protocol.specs.Locks.{weight, heldOne, releaseOne, allHeld, released}
-use Rattle.protocol.specs.Stores.{fit, fitFrom}
+use Rattle.protocol.specs.Stores.{fit, fitFrom, lowestFit}
 use Rattle.protocol.specs.Calls.{stored}
 use Rattle.protocol.specs.declared.Phase.{Phase}
 
@@ -40,21 +42,12 @@ pub weight-lt : (write : Bool) → weight write < 3
 weight-lt true = omega arith
 weight-lt false = omega arith
 
--- the search for a slot that is fit: on, here, none
-pub fit-more : (ws : List ℕ) (i n : ℕ) → i < n → fit ws i ≡ false → fitFrom ws i (n - i) ≡ fitFrom ws (i + 1) (n - (i + 1))
-unfolding fitFrom
-fit-more ws i n h f =
-    let e : n - i ≡ suc (n - (i + 1)) = omega arith in
-    rw (e, f, add-one)
+-- the lowest free slot, as the table's search finds it
+free-same : (ws : List ℕ) (i n : ℕ) → Free.fitFrom ws i n ≡ fitFrom ws i n
+unfolding Free.fitFrom Free.fit fitFrom fit
+free-same ws i zero = refl
+free-same ws i (suc n) = ap (cond (fit ws i) i) (free-same ws (suc i) n)
 
-pub fit-here : (ws : List ℕ) (i n : ℕ) → i < n → fit ws i ≡ true → i ≡ fitFrom ws i (n - i)
-unfolding fitFrom
-fit-here ws i n h f =
-    let e : n - i ≡ suc (n - (i + 1)) = omega arith in
-    rw (e, f)
-
-pub fit-none : (ws : List ℕ) (i n : ℕ) → n ≤ i → 0 ≡ fitFrom ws i (n - i)
-unfolding fitFrom
-fit-none ws i n h =
-    let e : n - i ≡ 0 = omega arith in
-    rw e
+pub lowest-free : (ws : List ℕ) → Free.lowestFit ws ≡ lowestFit ws
+unfolding Free.lowestFit lowestFit
+lowest-free ws = free-same ws 1 (slotsOf ws - 1)

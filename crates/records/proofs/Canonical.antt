@@ -88,7 +88,7 @@ same-self : (a : Flat) → sameFlat a a ≡ true
 unfolding sameFlat
 same-self a = simp (eq-eqb (a .work) _ refl, eq-eqb (a .key) _ refl, eq-eqb (a .phase) _ refl, eq-eqb (a .this) _ refl, eq-eqb (a .prev) _ refl, eq-eqb (a .side) _ refl, eq-eqb (a .before) _ refl, eq-eqb (a .up) _ refl, eq-eqb (a .other) _ refl, eq-eqb (a .toward) _ refl, eq-eqb (a .done) _ refl)
 
-eleven : (s : List ℕ) → length s ≡ 11 → listed (flatAt s) ≡ s
+pub eleven : (s : List ℕ) → length s ≡ 11 → listed (flatAt s) ≡ s
 unfolding flatAt
 eleven (a ∷ b ∷ c ∷ d ∷ e ∷ f ∷ g ∷ h ∷ i ∷ j ∷ k ∷ []) n = refl
 eleven [] n = absurd (omega (arith, n))

@@ -1,2 +1,5 @@
 pub mod Canonical
 pub mod Fills
+pub mod Walks
+pub mod Removers
+pub mod OneOutcome

@@ -5,8 +5,9 @@
 use mathlib.Core.Bool.{Bool, true, false, cond, _&&_}
 use mathlib.Core.List.{List, [], _∷_}
 use Prim.Native.Nat.{ℕ}
-use lib.Dec.{eqb}
+use lib.Dec.{eqb, leb}
 use lib.ListN.{length, getD}
+use lib.Seq.{sets}
 use Rattle.protocol.specs.declared.Kind.{Kind}
 use Rattle.protocol.specs.declared.Kind.the-variants.{Lookup, Insert, Remove}
 use Rattle.protocol.specs.declared.Work.{Work}
@@ -60,6 +61,17 @@ phaseFlat work key (UnderData this prev side done) = notedOf work key 6 this pre
 phaseFlat work key (UnderRouting this prev side before up other done) =
     notedOf work key 7 this prev side before up other true done
 
+-- the phases that only a remover has but for `Two`: the code reads these in a function of their own
+abbrev pub isRemover : Phase → Bool
+isRemover (Walk at prev before side up) = false
+isRemover (OnRouting this done) = false
+isRemover (New prev side done) = false
+isRemover (Two this done) = false
+isRemover (One this prev side child toward done) = true
+isRemover (Leaf this prev side before up) = true
+isRemover (UnderData this prev side done) = true
+isRemover (UnderRouting this prev side before up other done) = true
+
 unfoldable pub flatOf : Worker → Flat
 flatOf w = phaseFlat (workNumber (w .work)) (w .key) (w .phase)
 
@@ -103,6 +115,17 @@ phaseAt n this prev side before up other toward done =
     (cond (eqb n 6) (UnderData this prev side done)
     (cond (eqb n 7) (UnderRouting this prev side before up other done) (Walk this prev before side up)))))))
 
+-- the end of it from 6 on, and from 4 on: the code reads these in functions of their own
+abbrev pub underAt : ℕ → ℕ → ℕ → Bool → ℕ → Bool → ℕ → ℕ → Phase
+underAt n this prev side before up other done =
+    cond (eqb n 6) (UnderData this prev side done)
+    (cond (eqb n 7) (UnderRouting this prev side before up other done) (Walk this prev before side up))
+
+abbrev pub removerAt : ℕ → ℕ → ℕ → Bool → ℕ → Bool → ℕ → Bool → ℕ → Phase
+removerAt n this prev side before up other toward done =
+    cond (eqb n 4) (One this prev side other toward done)
+    (cond (eqb n 5) (Leaf this prev side before up) (underAt n this prev side before up other done))
+
 unfoldable pub workerAt : Flat → Worker
 workerAt f =
     record {
@@ -134,3 +157,17 @@ readOf s = cond (isRecord s) (Record (workerOf s)) Nothing
 -- a record put into lent words; nothing where they do not fit exactly
 unfoldable pub putRecord : List ℕ → Worker → List ℕ
 putRecord s w = cond (eqb (length s) 11) (wordsOf w) s
+
+-- A busy walk, which most steps meet, is told by its words alone, and goes on by five of them. `proofs/Walks.antt` shows
+-- that such words are a record, and which, and that they become the words of the walk that went on.
+
+unfoldable pub isWalk : List ℕ → Bool
+isWalk s =
+    eqb (length s) 11
+    && (leb 1 (getD s 0 0) && leb (getD s 0 0) 3 && eqb (getD s 2 0) 0 && leb (getD s 5 0) 1 && leb (getD s 7 0) 1
+    && eqb (getD s 8 0) 0 && eqb (getD s 9 0) 0 && eqb (getD s 10 0) 0)
+
+-- it stands at the next slot, on that side of the slot it stood at; nothing where the words are not eleven
+unfoldable pub walkOn : List ℕ → ℕ → Bool → List ℕ
+walkOn s next left =
+    cond (eqb (length s) 11) (sets s 3 (next ∷ getD s 3 0 ∷ sideNumber left ∷ getD s 4 0 ∷ getD s 5 0 ∷ [])) s

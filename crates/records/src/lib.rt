@@ -1,7 +1,8 @@
 // A worker's record as eleven words, and back. Every record has its words, and no two records have the same.
 ghost use mathlib.Core.Path.{_≡_};
+ghost use mathlib.Core.Bool.{true};
 ghost use lib.ListN.{length};
-ghost use Rattle.records.specs.Records.{sideNumber, kindNumber, workNumber, flatAt, notedOf, phaseFlat, flatOf, sameFlat, readOf, listed, putRecord};
+ghost use Rattle.records.specs.Records.{sideNumber, kindNumber, workNumber, flatAt, notedOf, isRemover, phaseFlat, flatOf, sameFlat, readOf, listed, putRecord, isWalk, walkOn};
 use protocol::Kind;
 use protocol::Phase;
 use protocol::Work;
@@ -90,20 +91,11 @@ fn noted(
     }
 }
 
-fn phase_flat(w: u64, k: u64, p: Phase) -> Flat
-    ensures { λ r. ⌜ r ≡ phaseFlat w k p ⌝ }
+// Of the phases in which a remover takes the locks of its case, and of the leaf.
+fn remover_flat(w: u64, k: u64, p: Phase) -> Flat
+    ensures { λ r. ⌜ (isRemover p ≡ true → r ≡ phaseFlat w k p) ⌝ }
 {
     match p {
-        Phase::Walk {
-            at,
-            prev,
-            before,
-            side,
-            up,
-        } => noted(w, k, 0, at, prev, side, before, up, 0, true, 0),
-        Phase::OnRouting { this, done } => noted(w, k, 1, this, 0, true, 0, true, 0, true, done),
-        Phase::New { prev, side, done } => noted(w, k, 2, 0, prev, side, 0, true, 0, true, done),
-        Phase::Two { this, done } => noted(w, k, 3, this, 0, true, 0, true, 0, true, done),
         Phase::One {
             this,
             prev,
@@ -134,6 +126,25 @@ fn phase_flat(w: u64, k: u64, p: Phase) -> Flat
             other,
             done,
         } => noted(w, k, 7, this, prev, side, before, up, other, true, done),
+        _ => noted(w, k, 0, 0, 0, true, 0, true, 0, true, 0),
+    }
+}
+
+fn phase_flat(w: u64, k: u64, p: Phase) -> Flat
+    ensures { λ r. ⌜ r ≡ phaseFlat w k p ⌝ }
+{
+    match p {
+        Phase::Walk {
+            at,
+            prev,
+            before,
+            side,
+            up,
+        } => noted(w, k, 0, at, prev, side, before, up, 0, true, 0),
+        Phase::OnRouting { this, done } => noted(w, k, 1, this, 0, true, 0, true, 0, true, done),
+        Phase::New { prev, side, done } => noted(w, k, 2, 0, prev, side, 0, true, 0, true, done),
+        Phase::Two { this, done } => noted(w, k, 3, this, 0, true, 0, true, 0, true, done),
+        _ => remover_flat(w, k, p),
     }
 }
 
@@ -218,5 +229,40 @@ pub fn put(d: &mut [u64], w: Worker)
 {
     if d.len() == WORDS {
         fill(d, flat_of(w));
+    }
+}
+
+// A busy walk, which most steps meet
+
+// Are the words a busy walk's?
+pub fn is_walk(s: &[u64]) -> bool
+    ensures { λ r. ⌜ r ≡ isWalk (now (s .entry)) ⌝ }
+{
+    if s.len() != WORDS {
+        return false;
+    }
+    (1 <= s[0])
+        & (s[0] <= 3)
+        & (s[2] == 0)
+        & (s[5] <= 1)
+        & (s[7] <= 1)
+        & (s[8] == 0)
+        & (s[9] == 0)
+        & (s[10] == 0)
+}
+
+// Moves them on to the next slot, on that side of the slot where the walk stood; nothing where they are not eleven.
+pub fn walk_on(s: &mut [u64], next: u64, left: bool)
+    ensures { λ _. ⌜ now (s .exit) ≡ walkOn (now (s .entry)) next left ⌝ }
+{
+    if s.len() == WORDS {
+        let at = s[3];
+        let prev = s[4];
+        let side = s[5];
+        s[3] = next;
+        s[4] = at;
+        s[5] = side_number(left);
+        s[6] = prev;
+        s[7] = side;
     }
 }

@@ -1,6 +1,6 @@
 // From numbers to a record: whatever the numbers are, something is read.
 ghost use mathlib.Core.Path.{_≡_};
-ghost use Rattle.records.specs.Records.{workAt, phaseAt, workerAt};
+ghost use Rattle.records.specs.Records.{workAt, underAt, removerAt, phaseAt, workerAt};
 use super::Flat;
 use protocol::Kind;
 use protocol::Phase;
@@ -22,7 +22,8 @@ fn work_at(n: u64) -> Work
     Work::Idle
 }
 
-fn phase_at(
+// Phases 6 and 7; of any other number a walk.
+fn under_at(
     n: u64,
     this: u64,
     prev: u64,
@@ -30,39 +31,10 @@ fn phase_at(
     before: u64,
     up: bool,
     other: u64,
-    toward: bool,
     done: u64,
 ) -> Phase
-    ensures { λ r. ⌜ r ≡ phaseAt n this prev side before up other toward done ⌝ }
+    ensures { λ r. ⌜ r ≡ underAt n this prev side before up other done ⌝ }
 {
-    if n == 1 {
-        return Phase::OnRouting { this, done };
-    }
-    if n == 2 {
-        return Phase::New { prev, side, done };
-    }
-    if n == 3 {
-        return Phase::Two { this, done };
-    }
-    if n == 4 {
-        return Phase::One {
-            this,
-            prev,
-            side,
-            child: other,
-            toward,
-            done,
-        };
-    }
-    if n == 5 {
-        return Phase::Leaf {
-            this,
-            prev,
-            side,
-            before,
-            up,
-        };
-    }
     if n == 6 {
         return Phase::UnderData {
             this,
@@ -89,6 +61,67 @@ fn phase_at(
         side,
         up,
     }
+}
+
+// Phases 4 to 7; of any other number a walk.
+fn remover_at(
+    n: u64,
+    this: u64,
+    prev: u64,
+    side: bool,
+    before: u64,
+    up: bool,
+    other: u64,
+    toward: bool,
+    done: u64,
+) -> Phase
+    ensures { λ r. ⌜ r ≡ removerAt n this prev side before up other toward done ⌝ }
+{
+    if n == 4 {
+        return Phase::One {
+            this,
+            prev,
+            side,
+            child: other,
+            toward,
+            done,
+        };
+    }
+    if n == 5 {
+        return Phase::Leaf {
+            this,
+            prev,
+            side,
+            before,
+            up,
+        };
+    }
+    under_at(n, this, prev, side, before, up, other, done)
+}
+
+fn phase_at(
+    n: u64,
+    this: u64,
+    prev: u64,
+    side: bool,
+    before: u64,
+    up: bool,
+    other: u64,
+    toward: bool,
+    done: u64,
+) -> Phase
+    ensures { λ r. ⌜ r ≡ phaseAt n this prev side before up other toward done ⌝ }
+{
+    if n == 1 {
+        return Phase::OnRouting { this, done };
+    }
+    if n == 2 {
+        return Phase::New { prev, side, done };
+    }
+    if n == 3 {
+        return Phase::Two { this, done };
+    }
+    remover_at(n, this, prev, side, before, up, other, toward, done)
 }
 
 pub fn worker_of(f: Flat) -> Worker

@@ -1,215 +1,199 @@
-// What a line asks for.
-use protocol::Kind;
+// What a line asks for: a command by its place in the list of names, and its numbers.
+ghost use Prim.Native.Nat.{_<_};
 use script::line;
 use script::line::Num;
 use script::line::Split;
-use script::record;
-use script::record::Flat;
+use script::names;
 use script::words;
-use script::words::Parsed;
 
-// What a line asks for. A record is one of 32, an index lies in the table.
-pub enum Asked {
-    Table(usize),
-    Fresh,
-    Poke(usize, u64),
-    Slot(usize),
-    Start(u64, Kind, u64),
-    Step(u64),
-    Withdraw(u64),
-    Run(u64),
-    Put(u64, Flat),
-    Show(u64),
-    Check,
-    Sweep,
-    First(u64),
-    List(u64, u64, usize),
-    Bad,
-}
+// The commands, in the order of the list.
+pub const TABLE: u64 = 0;
 
-// The longest table: the words of the buffer.
+pub const FRESH: u64 = 1;
+
+pub const POKE: u64 = 2;
+
+pub const SLOT: u64 = 3;
+
+pub const CHECK: u64 = 4;
+
+pub const SWEEP: u64 = 5;
+
+pub const FIRST: u64 = 6;
+
+pub const LIST: u64 = 7;
+
+pub const START: u64 = 8;
+
+pub const STEP: u64 = 9;
+
+pub const WITHDRAW: u64 = 10;
+
+pub const RUN: u64 = 11;
+
+pub const IDLE: u64 = 12;
+
+pub const RECORD: u64 = 13;
+
+pub const SET: u64 = 14;
+
+pub const BAD: u64 = 15;
+
+// What a number of a command is: 0 none, 1 decimal, 2 hexadecimal, 3 a kind of work. Three for each command.
+const FORMS: [u8; 45] = [
+    1,
+    0,
+    0,
+    0,
+    0,
+    0,
+    1,
+    2,
+    0,
+    1,
+    0,
+    0,
+    0,
+    0,
+    0,
+    0,
+    0,
+    0,
+    2,
+    0,
+    0,
+    2,
+    2,
+    1,
+    1,
+    3,
+    2,
+    1,
+    0,
+    0,
+    1,
+    0,
+    0,
+    1,
+    0,
+    0,
+    1,
+    0,
+    0,
+    1,
+    0,
+    0,
+    1,
+    0,
+    0,
+];
+
+// The longest table: the words of the buffer. The most keys that a list may have room for. How many records there are.
 const MOST: u64 = 2200;
 
-// The most keys that a list may have room for.
-pub const ROOM: u64 = 1100;
+const ROOM: u64 = 1100;
 
-fn is(s: &[u8], w: Split, word: &[u8]) -> bool {
+pub const RECORDS: u64 = 32;
+
+// A command and its numbers; what it does not have is 0.
+pub struct Asked {
+    pub command: u64,
+    pub x: u64,
+    pub y: u64,
+    pub z: u64,
+}
+
+fn bad() -> Asked {
+    Asked {
+        command: BAD,
+        x: 0,
+        y: 0,
+        z: 0,
+    }
+}
+
+// Lookup, insert or remove.
+fn kind(s: &[u8], from: usize, to: usize) -> Num {
+    let work = words::work_named(s, from, to);
+    match work {
+        0 | 4 => Num::Bad,
+        _ => Num::Value(work),
+    }
+}
+
+fn one_number(s: &[u8], from: usize, to: usize, form: u8) -> Num {
+    match form {
+        1 => line::decimal(s, from, to),
+        2 => line::hexadecimal(s, from, to),
+        _ => kind(s, from, to),
+    }
+}
+
+// The numbers of a command, and no word more but for `set`.
+fn numbers(s: &[u8], w: Split, command: u64) -> Asked
+    requires { ⌜ command < 15 ⌝ }
+{
     let from = w.from;
     let to = w.to;
-    line::is_word(s, from[0], to[0], word)
-}
-
-// The second word as a number.
-fn second(s: &[u8], w: Split) -> Num {
-    let from = w.from;
-    let to = w.to;
-    line::decimal(s, from[1], to[1])
-}
-
-// A command of one word.
-fn ask_one(s: &[u8], w: Split) -> Asked {
-    if is(s, w, b"fresh") {
-        return Asked::Fresh;
+    let mut v = [0u64; 3];
+    let mut i = 0;
+    let mut words = 1;
+    while i < 3 {
+        let form = FORMS[command as usize * 3 + i];
+        i += 1;
+        if form != 0 {
+            let said = one_number(s, from[i], to[i], form);
+            match said {
+                Num::Bad => {
+                    return bad();
+                }
+                Num::Value(n) => {
+                    v[i - 1] = n;
+                }
+            }
+            words = i + 1;
+        }
     }
-    if is(s, w, b"check") {
-        return Asked::Check;
+    if (w.count != words) & (command != SET) {
+        return bad();
     }
-    if is(s, w, b"sweep") {
-        return Asked::Sweep;
-    }
-    Asked::Bad
-}
-
-fn ask_first(s: &[u8], w: Split) -> Asked {
-    let from = w.from;
-    let to = w.to;
-    if w.count != 2 {
-        return Asked::Bad;
-    }
-    let said = line::hexadecimal(s, from[1], to[1]);
-    match said {
-        Num::Bad => Asked::Bad,
-        Num::Value(n) => Asked::First(n),
+    Asked {
+        command,
+        x: v[0],
+        y: v[1],
+        z: v[2],
     }
 }
 
-fn ask_list(s: &[u8], w: Split) -> Asked {
-    let from = w.from;
-    let to = w.to;
-    if w.count != 4 {
-        return Asked::Bad;
+// Are the numbers in range, where the table has so many words?
+fn fine(a: Asked, size: u64) -> bool {
+    let command = a.command;
+    match command {
+        TABLE => a.x <= MOST,
+        POKE => a.x < size,
+        SLOT => a.x < size / 2,
+        FIRST => true,
+        LIST => a.z <= ROOM,
+        _ => a.x < RECORDS,
     }
-    let low = line::hexadecimal(s, from[1], to[1]);
-    let high = line::hexadecimal(s, from[2], to[2]);
-    let room = line::decimal(s, from[3], to[3]);
-    list_of(low, high, room)
-}
-
-fn list_of(low: Num, high: Num, room: Num) -> Asked {
-    let Num::Value(l) = low else {
-        return Asked::Bad;
-    };
-    let Num::Value(h) = high else {
-        return Asked::Bad;
-    };
-    let Num::Value(n) = room else {
-        return Asked::Bad;
-    };
-    if ROOM < n {
-        return Asked::Bad;
-    }
-    Asked::List(l, h, n as usize)
 }
 
 // What a line asks for that has as many words as its command wants.
-pub fn ask(s: &[u8], w: Split, size: usize) -> Asked {
-    let count = w.count;
-    if count == 1 {
-        return ask_one(s, w);
-    }
-    if is(s, w, b"first") {
-        return ask_first(s, w);
-    }
-    if is(s, w, b"list") {
-        return ask_list(s, w);
-    }
-    let said = second(s, w);
-    match said {
-        Num::Bad => Asked::Bad,
-        Num::Value(n) => match count {
-            2 => ask_two(s, w, size, n),
-            3 => ask_poke(s, w, size, n),
-            4 => ask_start(s, w, n),
-            _ => ask_set(s, w, n),
-        },
-    }
-}
-
-// A command of two words: the table's size, a slot, or a record.
-fn ask_two(s: &[u8], w: Split, size: usize, n: u64) -> Asked {
-    if is(s, w, b"table") {
-        if MOST < n {
-            return Asked::Bad;
-        }
-        return Asked::Table(n as usize);
-    }
-    if is(s, w, b"slot") {
-        if size as u64 / 2 <= n {
-            return Asked::Bad;
-        }
-        return Asked::Slot(n as usize);
-    }
-    if record::RECORDS <= n {
-        return Asked::Bad;
-    }
-    ask_record(s, w, n)
-}
-
-fn ask_record(s: &[u8], w: Split, r: u64) -> Asked {
-    if is(s, w, b"step") {
-        return Asked::Step(r);
-    }
-    if is(s, w, b"withdraw") {
-        return Asked::Withdraw(r);
-    }
-    if is(s, w, b"run") {
-        return Asked::Run(r);
-    }
-    if is(s, w, b"idle") {
-        return Asked::Put(r, record::idle());
-    }
-    if is(s, w, b"record") {
-        return Asked::Show(r);
-    }
-    Asked::Bad
-}
-
-fn ask_poke(s: &[u8], w: Split, size: usize, n: u64) -> Asked {
+pub fn ask(s: &[u8], w: Split, size: u64) -> Asked {
     let from = w.from;
     let to = w.to;
-    let said = line::hexadecimal(s, from[2], to[2]);
-    match said {
-        Num::Bad => Asked::Bad,
-        Num::Value(v) => {
-            if !is(s, w, b"poke") | (size as u64 <= n) {
-                return Asked::Bad;
-            }
-            Asked::Poke(n as usize, v)
-        }
+    let command = names::place(
+        s,
+        from[0],
+        to[0],
+        b"table fresh poke slot check sweep first list start step withdraw run idle record set",
+    );
+    if BAD <= command {
+        return bad();
     }
-}
-
-fn ask_start(s: &[u8], w: Split, r: u64) -> Asked {
-    let from = w.from;
-    let to = w.to;
-    let said = line::hexadecimal(s, from[3], to[3]);
-    match said {
-        Num::Bad => Asked::Bad,
-        Num::Value(key) => {
-            if !is(s, w, b"start") | (record::RECORDS <= r) {
-                return Asked::Bad;
-            }
-            start_of(r, words::work_named(s, from[2], to[2]), key)
-        }
+    let a = numbers(s, w, command);
+    if fine(a, size) {
+        return a;
     }
-}
-
-fn start_of(r: u64, work: u64, key: u64) -> Asked {
-    match work {
-        1 => Asked::Start(r, Kind::Lookup, key),
-        2 => Asked::Start(r, Kind::Insert, key),
-        3 => Asked::Start(r, Kind::Remove, key),
-        _ => Asked::Bad,
-    }
-}
-
-fn ask_set(s: &[u8], w: Split, r: u64) -> Asked {
-    if !is(s, w, b"set") | (record::RECORDS <= r) {
-        return Asked::Bad;
-    }
-    let said = words::parse(s, w);
-    match said {
-        Parsed::Bad => Asked::Bad,
-        Parsed::Record(f) => Asked::Put(r, f),
-    }
+    bad()
 }

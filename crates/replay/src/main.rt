@@ -2,7 +2,7 @@
 // the proved crates; README.md has a run of it.
 mod asked;
 mod between;
-mod calls;
+mod commands;
 
 use libc::STDIN_FILENO;
 use script::answers;
@@ -45,7 +45,7 @@ fn carry_out(text: &[u8], buffer: &mut [u64], records: &mut [u64], d: Desk) -> u
         return d.size;
     }
     let len = line::without_blanks(text, d.len);
-    calls::command(&text[..len], buffer, d.size, records, d.number)
+    commands::command(&text[..len], buffer, d.size, records, d.number)
 }
 
 fn end_line(text: &[u8], buffer: &mut [u64], records: &mut [u64], d: Desk) -> Desk {

@@ -1,7 +1,5 @@
 // What is printed: one line an answer.
 use libc::STDOUT_FILENO;
-use protocol::Answer;
-use table::Reply;
 
 pub fn text(s: &[u8]) {
     io::write_all(STDOUT_FILENO, s);
@@ -44,30 +42,24 @@ pub fn done() {
     text(b"done\n");
 }
 
-fn refused(n: u64) {
+// What a call says, by its number: `fine` stands for what it does with no more to say.
+pub fn verdict(n: u64, fine: &[u8]) {
+    match n {
+        0 => text(fine),
+        5 => text(b"full"),
+        16 => text(b"yes"),
+        17 => text(b"no"),
+        _ => refused(n),
+    }
+}
+
+pub fn refused(n: u64) {
     text(b"refused ");
     decimal(n);
 }
 
-pub fn refusal(n: u64) {
-    refused(n);
+// The same for a call that does what it is asked for, or refuses.
+pub fn reply(n: u64) {
+    verdict(n, b"done");
     text(b"\n");
-}
-
-pub fn reply(r: Reply) {
-    match r {
-        Reply::Done => done(),
-        Reply::Refusal(n) => refusal(n),
-    }
-}
-
-// A step's answer, without the line's end.
-pub fn answer(a: Answer) {
-    match a {
-        Answer::Going => text(b"going"),
-        Answer::Yes => text(b"yes"),
-        Answer::No => text(b"no"),
-        Answer::Full => text(b"full"),
-        Answer::Refused(n) => refused(n),
-    }
 }

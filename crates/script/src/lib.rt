@@ -1,5 +1,6 @@
-// What the program `replay` reads and prints: a line and its words, a worker's record as numbers and as words, answers.
+// What the program `replay` reads and prints: a line and its words, names by their place in a list, a worker's record as
+// words, answers.
 pub mod answers;
 pub mod line;
-pub mod record;
+pub mod names;
 pub mod words;

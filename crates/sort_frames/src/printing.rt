@@ -1,7 +1,6 @@
 // Lines wait in a buffer until it is full, and are written in one call.
 use libc::STDOUT_FILENO;
-use lines::output;
-use lines::output::FrameLine;
+use printed::FrameLine;
 
 // Writes the bytes that wait.
 pub fn write_out(out: &[u8], waiting: usize) {
@@ -15,11 +14,11 @@ fn print_front(out: &mut [u8], waiting: usize, line: &[u8], size: usize) -> usiz
     if line.len() < size {
         return waiting;
     }
-    if output::append(out, waiting, &line[..size]) {
+    if lines::append(out, waiting, &line[..size]) {
         return std::num::wrapping_add_usize(waiting, size);
     }
     write_out(out, waiting);
-    if output::append(out, 0, &line[..size]) {
+    if lines::append(out, 0, &line[..size]) {
         return size;
     }
     0
@@ -32,20 +31,20 @@ fn print(out: &mut [u8], waiting: usize, line: &[u8; 128], size: usize) -> usize
 
 pub fn refused(out: &mut [u8], waiting: usize, number: u64, refusal: u64) -> usize {
     let mut line = [0u8; 128];
-    let size = output::refused_line(&mut line, number, refusal);
+    let size = printed::refused_line(&mut line, number, refusal);
     print(out, waiting, &line, size)
 }
 
 pub fn already(out: &mut [u8], waiting: usize, number: u64) -> usize {
     let mut line = [0u8; 128];
-    let size = output::already_line(&mut line, number);
+    let size = printed::already_line(&mut line, number);
     print(out, waiting, &line, size)
 }
 
 // A key of the table is legal, so its line is never refused.
 pub fn frame(out: &mut [u8], waiting: usize, place: u64, key: u64) -> usize {
     let mut line = [0u8; 128];
-    let said = output::frame_line(&mut line, place, key);
+    let said = printed::frame_line(&mut line, place, key);
     match said {
         FrameLine::Bytes(size) => print(out, waiting, &line, size),
         FrameLine::Refused(_) => waiting,

@@ -1,5 +1,6 @@
 pub mod PairLaws
 pub mod ChangeLaws
 pub mod FreshLaws
+pub mod FreeLaws
 pub mod RuleLaws
 pub mod OneOutcome

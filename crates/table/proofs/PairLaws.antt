@@ -4,9 +4,8 @@ use mathlib.Core.Path.{_≡_, refl, sym, ap, ap₂, _∙_}
 use mathlib.Core.Bool.{Bool, true, false}
 use mathlib.Core.List.{List, [], _∷_}
 use mathlib.Core.Logic.{_≢_}
-use Prim.Native.Nat.{ℕ, suc, _+_, _/_, _^_, _≤_, _<_}
+use Prim.Native.Nat.{ℕ, suc, _+_, _-_, _*_, _/_, _%_, _^_, _≤_, _<_}
 use native.Mathlib.Omega.{arith}
-use native.Mathlib.Nat.{mod-one}
 use native.Mathlib.Decide.{decLt, ℕ-discrete}
 use native.Mathlib.Numerals.{add-one}
 use lib.Dec.{leb}
@@ -14,10 +13,10 @@ use lib.ListN.{length, getD, set, take, replicate, replicate-append-replicate, l
 use lib.Seq.{take-suc-set, getD-set-same, getD-set-other, set-out, set-set, set-getD}
 use borrow.Author.Tests.{lt-leb, le-leb, leb-true, leb-false}
 use Rattle.layout.specs.Word.{get, put}
-use Rattle.layout.specs.Layout.{pos, wid, fld, fldSet, dec, poses, pows}
-use Rattle.layout.proofs.WordLaws.{get-lt, put-get}
-use Rattle.layout.proofs.LayoutLaws.{fld-same, fld-other, fldSet-lt, getD-poses, getD-pows, inside, All-at, same-fields}
-use Rattle.table.specs.Pair.{layout, lockF, wordAt, wordOf, setWord, keyOf, setKey, fieldOf, setField}
+use Rattle.layout.specs.Layout.{pos, wid, fld, fldSet, dec}
+use Rattle.layout.proofs.WordLaws.{get-lt, one-shifted, get-shifts, put-shifts}
+use Rattle.layout.proofs.LayoutLaws.{fld-same, fld-other, fldSet-lt, inside, same-fields}
+use Rattle.table.specs.Pair.{layout, linkF, lockF, wordAt, wordOf, setWord, setBits, keyOf, setKey, fieldOf, setField}
 use Rattle.table.specs.declared.Which.{Which}
 use Rattle.table.specs.declared.Which.the-variants.{State, Edge}
 
@@ -167,39 +166,47 @@ unfolding fieldOf
 same-word ws vs i j a b e =
     same-fields layout (wordOf ws i 1) (wordOf vs j 1) a b (same-dec layout (wordOf ws i 1) (wordOf vs j 1) e)
 
--- As code has the layout: the tables of places and sizes, and what lies beyond them
+-- As code has the layout: a field by its place and width
 
-pub widths : (f : ℕ) → f < length layout → (0 < wid layout f) × (wid layout f < 64)
-widths f h = All-at (λ w. (0 < w) × (w < 64)) layout (omega arith) f h
+pub link-wide : (side : Bool) → 10 ≡ wid layout (linkF side)
+link-wide true = refl
+link-wide false = refl
 
--- each field is within a shift's reach
-pub reach : (f : ℕ) → f < length layout → (getD (poses layout) f 0 < 64) × (wid layout f < 64) × (getD (poses layout) f 0 + wid layout f ≤ 64)
-reach f h =
-    let w = widths f h in
-    let e = inside layout f in
-    let q = getD-poses layout f in
-    (omega arith, w .1, omega arith)
+pub lock-wide : (which : Which) → 6 ≡ wid layout (lockF which)
+lock-wide State = refl
+lock-wide (Edge true) = refl
+lock-wide (Edge false) = refl
 
-pub size-at : (f : ℕ) → f < length layout → getD (pows layout) f 0 ≡ 2 ^ wid layout f
-size-at f h = getD-pows layout f h
+-- it is within a shift's reach
+pub reach : (f p w : ℕ) → p ≡ pos layout f → w ≡ wid layout f → 0 < w → w < 64 → (p < 64) × (w < 64) × (p + w ≤ 64)
+reach f p w e d l h = omega (arith, inside layout f)
 
--- beyond the layout there is no field: it reads as 0 and takes nothing
-pub wid-out : (f : ℕ) → length layout ≤ f → wid layout f ≡ 0
-wid-out f h = List·getD-eq-default layout 0 h
-
-pub field-out : (f : ℕ) (ws : List ℕ) (i : ℕ) → length layout ≤ f → 0 ≡ fieldOf f ws i
+pub field-at : (f p w : ℕ) (ws : List ℕ) (i : ℕ) → p ≡ pos layout f → w ≡ wid layout f → get p w (wordOf ws i 1) ≡ fieldOf f ws i
 unfolding fieldOf
-field-out f ws i h = rw (wid-out f h) (sym (mod-one _))
+field-at f p w ws i e d = rw (e, d)
 
-pub put-none : (p n v : ℕ) → v < 1 → put p 0 n v ≡ n
-put-none p n v h =
-    let e : v ≡ get p 0 n = omega (arith, mod-one (n / 2 ^ p)) in
-    rw e (put-get p 0 n)
+pub store-at : (f p w : ℕ) (ws : List ℕ) (i v : ℕ) → p ≡ pos layout f → w ≡ wid layout f → setBits ws i p w v ≡ setField f ws i v
+unfolding setBits setField
+store-at f p w ws i v e d = rw (e, d)
 
-pub set-field-out : (f : ℕ) (ws : List ℕ) (i v : ℕ) → length layout ≤ f → ws ≡ setField f ws i v
-set-field-out f ws i v h =
-    stored (λ (x : List ℕ). ws ≡ x) f ws i v
-    (λ k. sym (ap (setWord ws i 1) (rw (wid-out f h) (put-none (pos layout f) (wordOf ws i 1) v (rw (wid-out f h) at k))) ∙ word-itself ws i 1)) refl
+-- as shifts make it: the size of a field of w bits, what is taken off, and the new word
+pub size-of : (w : ℕ) → w < 64 → 1 * 2 ^ w % 2 ^ 64 ≡ 2 ^ w
+size-of w h = one-shifted 64 w h
+
+pub code-le : (p w x : ℕ) → w < 64 → p + w ≤ 64 → x / 2 ^ p % (1 * 2 ^ w % 2 ^ 64) * 2 ^ p % 2 ^ 64 ≤ x
+code-le p w x h k = get-shifts 64 p w x (x / 2 ^ p % (1 * 2 ^ w % 2 ^ 64)) k (rw (size-of w h))
+
+pub code-put : (p w x v : ℕ) → w < 64 → p + w ≤ 64 → v < 2 ^ w
+    → x - x / 2 ^ p % (1 * 2 ^ w % 2 ^ 64) * 2 ^ p % 2 ^ 64 + v * 2 ^ p % 2 ^ 64 ≡ put p w x v
+code-put p w x v h k l = put-shifts 64 p w x v (x / 2 ^ p % (1 * 2 ^ w % 2 ^ 64)) k l (rw (size-of w h))
+
+pub bits-fit : (ws : List ℕ) (i p w v : ℕ) → v < 2 ^ w → setBits ws i p w v ≡ setWord ws i 1 (put p w (wordOf ws i 1) v)
+unfolding setBits
+bits-fit ws i p w v h = rw (lt-leb (2 ^ w) v h)
+
+pub bits-big : (ws : List ℕ) (i p w v : ℕ) → 2 ^ w ≤ v → ws ≡ setBits ws i p w v
+unfolding setBits
+bits-big ws i p w v h = rw (le-leb (2 ^ w) v h)
 
 -- one more word is zero
 pub zero-more : (ws : List ℕ) (i : ℕ) → i < length ws → take i ws ≡ replicate i 0 → take (i + 1) (set ws i 0) ≡ replicate (i + 1) 0

@@ -6,6 +6,7 @@ use mathlib.Core.List.{List, [], _∷_}
 use Prim.Native.Nat.{ℕ, _+_, _*_, _/_, _^_}
 use lib.Dec.{leb, eqb}
 use lib.ListN.{length, getD, set}
+use Rattle.layout.specs.Word.{put}
 use Rattle.layout.specs.Layout.{wid, fld, fldSet}
 use Rattle.table.specs.declared.Which.{Which}
 use Rattle.table.specs.declared.Which.the-variants.{State, Edge}
@@ -73,6 +74,10 @@ fieldOf f ws i = fld layout f (wordOf ws i 1)
 
 unfoldable pub setField : ℕ → List ℕ → ℕ → ℕ → List ℕ
 setField f ws i v = cond (leb (2 ^ wid layout f) v) ws (setWord ws i 1 (fldSet layout f (wordOf ws i 1) v))
+
+-- a store to a field by its place p and width w, as code makes it
+unfoldable pub setBits : List ℕ → ℕ → ℕ → ℕ → ℕ → List ℕ
+setBits ws i p w v = cond (leb (2 ^ w) v) ws (setWord ws i 1 (put p w (wordOf ws i 1) v))
 
 -- the fields by name
 abbrev pub stateOf : List ℕ → ℕ → ℕ

@@ -3,10 +3,12 @@
 ghost use mathlib.Core.Path.{_≡_};
 ghost use Prim.Native.Nat.{ℕ, _+_, _^_, _<_, _≤_};
 ghost use lib.ListN.{length, replicate};
-ghost use Rattle.layout.specs.Word.{get, put};
-ghost use Rattle.table.specs.Pair.{slotsOf, wordOf, setWord, fieldOf, setField, keyOf, setKey, linkF, lockF, stateOf, linkOf, lockOf, busyOf, setState, setLink, setLock, setBusy, zeroPair, zeroed};
+ghost use Rattle.layout.specs.Word.{get};
+ghost use Rattle.layout.specs.Layout.{pos};
+ghost use Rattle.table.specs.Pair.{layout, slotsOf, wordOf, setWord, setBits, keyOf, setKey, linkF, lockF, stateOf, linkOf, lockOf, busyOf, setState, setLink, setLock, setBusy, zeroPair, zeroed};
 ghost use Rattle.table.specs.Rules.{bitsFine, pairFine, rootFine, tableFine, replySays, freshSays, freshWords};
 
+pub mod free;
 mod rules;
 
 // Which of a pair's locks: of its state, or of the edge on a side (true: left).
@@ -30,18 +32,18 @@ pub const ROUTING: u64 = 2;
 
 pub const DELETED: u64 = 3;
 
-// The layout of a slot's second word: where each field begins, how wide it is, and the first value that it cannot hold.
-const POS: [u64; 8] = [62, 52, 42, 36, 30, 24, 19, 0];
+// The layout of a slot's second word: where the fields begin, and how wide they are.
+const STATE: u64 = 62;
 
-const WID: [u64; 8] = [2, 10, 10, 6, 6, 6, 5, 19];
+const STATE_BITS: u64 = 2;
 
-const SIZE: [u64; 8] = [4, 1024, 1024, 64, 64, 64, 32, 524288];
+const LINK_BITS: u64 = 10;
 
-const FIELDS: u64 = 8;
+const LOCK_BITS: u64 = 6;
 
-const STATE: u64 = 0;
+const BUSY: u64 = 19;
 
-const BUSY: u64 = 6;
+const BUSY_BITS: u64 = 5;
 
 // The words that a slot has, and the fewest and the most that a table has.
 const WORDS: u64 = 2;
@@ -52,22 +54,6 @@ const MOST: u64 = 2048;
 
 // The root's key.
 const ALL_ONES: u64 = 18446744073709551615;
-
-// The field of w bits at p.
-fn bits(x: u64, p: u64, w: u64) -> u64
-    requires { ⌜ (p < 64) × (w < 64) ⌝ }
-    ensures { λ r. ⌜ r ≡ get p w x ⌝ }
-{
-    (x >> p) % (1 << w)
-}
-
-// The word with that field replaced.
-fn with_bits(x: u64, p: u64, w: u64, v: u64) -> u64
-    requires { ⌜ (p < 64) × (w < 64) × (p + w ≤ 64) × (v < 2 ^ w) ⌝ }
-    ensures { λ r. ⌜ r ≡ put p w x v ⌝ }
-{
-    x - (bits(x, p, w) << p) + (v << p)
-}
 
 // How many slots the words make.
 pub fn slots(t: &[u64]) -> u64
@@ -92,59 +78,48 @@ fn set_word(t: &mut [u64], i: u64, k: u64, v: u64)
     requires { ⌜ k < 2 ⌝ }
     ensures { λ _. ⌜ now (t .exit) ≡ setWord (now (t .entry)) i k v ⌝ }
 {
-    let n = t.len() as u64;
+    let n = (t.len() as u64 + 1 - k) / WORDS;
     if n <= i {
         return;
     }
-    let j = WORDS * i + k;
-    if n <= j {
-        return;
-    }
-    let at = j as usize;
+    let at = (WORDS * i + k) as usize;
     t[at] = v;
 }
 
-fn field(t: &[u64], i: u64, f: u64) -> u64
-    ensures { λ r. ⌜ r ≡ fieldOf f (now (t .entry)) i ⌝ }
+// The field of w bits at p of the slot's second word.
+fn field(t: &[u64], i: u64, p: u64, w: u64) -> u64
+    requires { ⌜ (p < 64) × (w < 64) ⌝ }
+    ensures { λ r. ⌜ r ≡ get p w (wordOf (now (t .entry)) i 1) ⌝ }
 {
-    if FIELDS <= f {
-        return 0;
-    }
-    let g = f as usize;
-    let p = POS[g];
-    let w = WID[g];
-    bits(word(t, i, 1), p, w)
+    (word(t, i, 1) >> p) % (1 << w)
 }
 
-fn set_field(t: &mut [u64], i: u64, f: u64, v: u64)
-    ensures { λ _. ⌜ now (t .exit) ≡ setField f (now (t .entry)) i v ⌝ }
+// Puts a value that fits into that field: the old one is taken off and the new one put on.
+fn set_field(t: &mut [u64], i: u64, p: u64, w: u64, v: u64)
+    requires { ⌜ (p < 64) × (w < 64) × (p + w ≤ 64) ⌝ }
+    ensures { λ _. ⌜ now (t .exit) ≡ setBits (now (t .entry)) i p w v ⌝ }
 {
-    if FIELDS <= f {
+    let size = 1 << w;
+    if size <= v {
         return;
     }
-    let g = f as usize;
-    let s = SIZE[g];
-    if s <= v {
-        return;
-    }
-    let p = POS[g];
-    let w = WID[g];
-    let x = with_bits(word(t, i, 1), p, w, v);
-    set_word(t, i, 1, x);
+    let x = word(t, i, 1);
+    let y = x - ((x >> p) % size << p) + (v << p);
+    set_word(t, i, 1, y);
 }
 
-fn link_field(side: bool) -> u64
-    ensures { λ r. ⌜ r ≡ linkF side ⌝ }
+fn link_at(side: bool) -> u64
+    ensures { λ r. ⌜ r ≡ pos layout (linkF side) ⌝ }
 {
-    if side { 1 } else { 2 }
+    if side { 52 } else { 42 }
 }
 
-fn lock_field(which: Which) -> u64
-    ensures { λ r. ⌜ r ≡ lockF which ⌝ }
+fn lock_at(which: Which) -> u64
+    ensures { λ r. ⌜ r ≡ pos layout (lockF which) ⌝ }
 {
     match which {
-        Which::State => 3,
-        Which::Edge(side) => { if side { 4 } else { 5 } }
+        Which::State => 36,
+        Which::Edge(side) => { if side { 30 } else { 24 } }
     }
 }
 
@@ -154,29 +129,36 @@ pub fn key(t: &[u64], i: u64) -> u64
     word(t, i, 0)
 }
 
+// The word of fields.
+pub fn fields(t: &[u64], i: u64) -> u64
+    ensures { λ r. ⌜ r ≡ wordOf (now (t .entry)) i 1 ⌝ }
+{
+    word(t, i, 1)
+}
+
 pub fn state(t: &[u64], i: u64) -> u64
     ensures { λ r. ⌜ r ≡ stateOf (now (t .entry)) i ⌝ }
 {
-    field(t, i, STATE)
+    field(t, i, STATE, STATE_BITS)
 }
 
 pub fn link(t: &[u64], i: u64, side: bool) -> u64
     ensures { λ r. ⌜ r ≡ linkOf (now (t .entry)) i side ⌝ }
 {
-    field(t, i, link_field(side))
+    field(t, i, link_at(side), LINK_BITS)
 }
 
 pub fn lock(t: &[u64], i: u64, which: Which) -> u64
     ensures { λ r. ⌜ r ≡ lockOf (now (t .entry)) i which ⌝ }
 {
-    field(t, i, lock_field(which))
+    field(t, i, lock_at(which), LOCK_BITS)
 }
 
 // How many workers are busy.
 pub fn busy(t: &[u64]) -> u64
     ensures { λ r. ⌜ r ≡ busyOf (now (t .entry)) ⌝ }
 {
-    field(t, 0, BUSY)
+    field(t, 0, BUSY, BUSY_BITS)
 }
 
 pub fn set_key(t: &mut [u64], i: u64, k: u64)
@@ -188,27 +170,27 @@ pub fn set_key(t: &mut [u64], i: u64, k: u64)
 pub fn set_state(t: &mut [u64], i: u64, s: u64)
     ensures { λ _. ⌜ now (t .exit) ≡ setState (now (t .entry)) i s ⌝ }
 {
-    set_field(t, i, STATE, s);
+    set_field(t, i, STATE, STATE_BITS, s);
 }
 
 pub fn set_link(t: &mut [u64], i: u64, side: bool, c: u64)
     ensures { λ _. ⌜ now (t .exit) ≡ setLink (now (t .entry)) i side c ⌝ }
 {
-    let f = link_field(side);
-    set_field(t, i, f, c);
+    let p = link_at(side);
+    set_field(t, i, p, LINK_BITS, c);
 }
 
 pub fn set_lock(t: &mut [u64], i: u64, which: Which, x: u64)
     ensures { λ _. ⌜ now (t .exit) ≡ setLock (now (t .entry)) i which x ⌝ }
 {
-    let f = lock_field(which);
-    set_field(t, i, f, x);
+    let p = lock_at(which);
+    set_field(t, i, p, LOCK_BITS, x);
 }
 
 pub fn set_busy(t: &mut [u64], n: u64)
     ensures { λ _. ⌜ now (t .exit) ≡ setBusy (now (t .entry)) n ⌝ }
 {
-    set_field(t, 0, BUSY, n);
+    set_field(t, 0, BUSY, BUSY_BITS, n);
 }
 
 // Are all words of the slot zero?
@@ -229,7 +211,7 @@ pub fn zero_slot(t: &mut [u64], i: u64)
 pub fn bits_fine(t: &[u64], i: u64) -> bool
     ensures { λ r. ⌜ r ≡ bitsFine (now (t .entry)) i ⌝ }
 {
-    rules::word_fine(word(t, i, 1), slots(t), i == 0)
+    rules::word_fine(fields(t, i), slots(t), i == 0)
 }
 
 // May a step read, store to or unlock this pair?

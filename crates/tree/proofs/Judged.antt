@@ -15,9 +15,11 @@ use Rattle.table.specs.Pair.{free, asData, routing, slotsOf, keyOf, stateOf, li
 use Rattle.table.specs.Rules.{allOnes, bitsFine, rootFine, sizeFine, tableFine}
 use Rattle.tree.specs.Reach.{Tab, tabOf, top, kid, Reached}
 use Rattle.tree.specs.Sound.{Sound}
-use Rattle.tree.specs.Judge.{pairSound, Want, wanted, own, reachedOf, live, liveOf, liveSlots, soundOf}
+use Rattle.tree.specs.Judge.{pairSound, Want, want, wanted, own, reachedOf, live, liveOf, liveSlots, soundOf}
 use Rattle.tree.proofs.Paths.{under-some, ordered, unique-parent, left-smaller, right-larger, beside-under}
-use Rattle.tree.proofs.Pigeon.{Mem, Distinct, All-of, pigeon, all-there}
+use Rattle.tree.specs.Places.{picked, asked}
+use Rattle.tree.proofs.Recursions.{live-picked}
+use Rattle.tree.proofs.Pigeon.{Mem, Distinct, All-of, pigeon, all-there, few}
 use Rattle.tree.proofs.Trees.{Rooted, reach-split, reached-has, reached-bounds, tree-between}
 use Rattle.tree.proofs.TreeTest.{reached-in, every-at, at-every, Fine, tree-there, tree-passes}
 use Rattle.tree.proofs.Listing.{own-is, is-own, rises, rising-distinct, listed-hangs, hangs-listed}
@@ -45,31 +47,44 @@ is-live : (ws : List ℕ) (i : ℕ) → i ≢ 0 → asData ≤ stateOf ws i → 
 unfolding liveOf
 is-live ws i z a b = rw (ne-eqb i 0 z, le-leb asData (stateOf ws i) a, le-leb (stateOf ws i) routing b)
 
-live-mem : (ws : List ℕ) (n y : ℕ) → Mem y (liveSlots ws n) → (y < n) × (liveOf ws y ≡ true)
-unfolding liveSlots
-live-mem ws zero y m = absurd (List·Memᴰ·not-nil m)
-live-mem ws (suc n) y m = ⊎-elim
-    (λ a. let i = own-is (liveOf ws n) n y a in let e = i .0 in (omega arith, rw e (i .1)))
-    (λ a. let i = live-mem ws n y a in let l = i .0 in (omega arith, i .1))
-    (List·Memᴰ·append-cases (own (liveOf ws n) n) m)
+-- the slots that pass a test
+picked-mem : (f : ℕ → Bool) (n y : ℕ) → Mem y (picked f n) → (y < n) × (f y ≡ true)
+unfolding picked
+picked-mem f zero y m = absurd (List·Memᴰ·not-nil m)
+picked-mem f (suc n) y m = ⊎-elim
+    (λ a. let i = own-is (f n) n y a in let e = i .0 in (omega arith, rw e (i .1)))
+    (λ a. let i = picked-mem f n y a in let l = i .0 in (omega arith, i .1))
+    (List·Memᴰ·append-cases (own (f n) n) m)
 
-mem-live : (ws : List ℕ) (n y : ℕ) → y < n → liveOf ws y ≡ true → Mem y (liveSlots ws n)
-unfolding liveSlots
-mem-live ws zero y h e = absurd (omega arith)
-mem-live ws (suc n) y h e = go (ℕ-discrete y n) (λ l. mem-live ws n y l e)
+mem-picked : (f : ℕ → Bool) (n y : ℕ) → y < n → f y ≡ true → Mem y (picked f n)
+unfolding picked
+mem-picked f zero y h e = absurd (omega arith)
+mem-picked f (suc n) y h e = go (ℕ-discrete y n) (λ l. mem-picked f n y l e)
   where
-    go : Dec (y ≡ n) → (y < n → Mem y (liveSlots ws n)) → Mem y (own (liveOf ws n) n ++ liveSlots ws n)
-    go (yes q) r = Memᴰ·append-left (liveSlots ws n) (is-own (liveOf ws n) n y (rw q at e) q)
-    go (no q) r = Memᴰ·append-right (own (liveOf ws n) n) (r (omega arith))
+    go : Dec (y ≡ n) → (y < n → Mem y (picked f n)) → Mem y (own (f n) n ++ picked f n)
+    go (yes q) r = Memᴰ·append-left (picked f n) (is-own (f n) n y (rw q at e) q)
+    go (no q) r = Memᴰ·append-right (own (f n) n) (r (omega arith))
 
 distinct-own : (b : Bool) (n : ℕ) (xs : List ℕ) → ((y : ℕ) → Mem y xs → y < n) → Distinct xs → Distinct (own b n ++ xs)
 distinct-own true n xs f d = (All-of (λ y. y ≢ n) xs (λ y m e. let l = f y m in omega arith), d)
 distinct-own false n xs f d = d
 
+picked-distinct : (f : ℕ → Bool) (n : ℕ) → Distinct (picked f n)
+unfolding picked
+picked-distinct f zero = tt
+picked-distinct f (suc n) = distinct-own (f n) n (picked f n) (λ y m. picked-mem f n y m .0) (picked-distinct f n)
+
+pub picked-few : (f : ℕ → Bool) (n : ℕ) → length (picked f n) ≤ n
+picked-few f n = few n (picked f n) (picked-distinct f n) (All-of (λ y. y < n) (picked f n) (λ y m. picked-mem f n y m .0))
+
+live-mem : (ws : List ℕ) (n y : ℕ) → Mem y (liveSlots ws n) → (y < n) × (liveOf ws y ≡ true)
+live-mem ws n y m = picked-mem (liveOf ws) n y (rw (live-picked ws n) m)
+
+mem-live : (ws : List ℕ) (n y : ℕ) → y < n → liveOf ws y ≡ true → Mem y (liveSlots ws n)
+mem-live ws n y h e = rw (live-picked ws n) at (mem-picked (liveOf ws) n y h e)
+
 live-distinct : (ws : List ℕ) (n : ℕ) → Distinct (liveSlots ws n)
-unfolding liveSlots
-live-distinct ws zero = tt
-live-distinct ws (suc n) = distinct-own (liveOf ws n) n (liveSlots ws n) (λ y m. live-mem ws n y m .0) (live-distinct ws n)
+live-distinct ws n = rw (live-picked ws n) at (picked-distinct (liveOf ws) n)
 
 -- asked for as live
 pub wanted-is : (ws : List ℕ) (w : Want) (y : ℕ) → wanted ws w y ≡ true
@@ -88,7 +103,7 @@ pair-is ws i e =
     let p = simp tests at e in
     (p .0, λ z. ⊎-elim (λ n. absurd (eqb-false (stateOf ws i) free (not-true (eqb (stateOf ws i) free) n) z)) (λ h. h) (either _ _ (p .1)))
 
-is-pair : (ws : List ℕ) (i : ℕ) → bitsFine ws i ≡ true → (stateOf ws i ≡ free → zeroPair ws i ≡ true) → pairSound ws i ≡ true
+pub is-pair : (ws : List ℕ) (i : ℕ) → bitsFine ws i ≡ true → (stateOf ws i ≡ free → zeroPair ws i ≡ true) → pairSound ws i ≡ true
 unfolding pairSound
 is-pair ws i b f = rw b (go (eqb (stateOf ws i) free) refl)
   where
@@ -218,3 +233,23 @@ module _ (ws : List ℕ) (fine : tableFine ws ≡ true) where
 
   pub sound-exactly : (soundOf ws ≡ true) ↔ Sound ws
   sound-exactly = (test-sound, sound-test)
+
+  -- OF A SOUND TABLE as many data slots are reached as there are, whatever their keys: so they may be counted in any order
+  pub counted-data : soundOf ws ≡ true → (low high : ℕ)
+      → length (reachedOf ws (want asData asData low high)) ≡ length (picked (asked ws (want asData asData low high)) (slotsOf ws))
+  unfolding asked
+  counted-data e low high =
+      let w = want asData asData low high in
+      let t = rooted e in
+      let f : ℕ → Bool = asked ws w in
+      let a = pigeon (reachedOf ws w) (picked f (slotsOf ws)) (list-distinct t w)
+      (λ y m. let h = listed-reached t w y m in mem-picked f (slotsOf ws) y (in-table e (h .1)) (rw (ne-eqb y 0 (h .0), h .2))) in
+      let b = pigeon (picked f (slotsOf ws)) (reachedOf ws w) (picked-distinct f (slotsOf ws))
+      (λ y m.
+      let i = picked-mem f (slotsOf ws) y m in
+      let p = simp tests at (i .1) in
+      let v = wanted-is ws w y (p .1) in
+      let c = v .0 in
+      let d = v .1 in
+      reached-listed t w y (eqb-false y 0 (not-true (eqb y 0) (p .0))) (all-reached e y (i .0) (omega arith) (omega arith)) (p .1)) in
+      omega arith

@@ -12,12 +12,15 @@ pub mod Pigeon
 pub mod Trees
 pub mod TreeTest
 pub mod Listing
+pub mod Heads
 -- what is proved of the definitions
 pub mod Judged
+pub mod Counting
 pub mod Lists
 pub mod Outcomes
 pub mod Swept
 pub mod Sweeping
 pub mod Refusals
+pub mod Kept
 pub mod SoundPaths
 pub mod Fresh

@@ -37,7 +37,7 @@ none-of : (xs : List ℕ) → length xs ≡ 0 → (y : ℕ) → Mem y xs → ⊥
 none-of [] e y m = List·Memᴰ·not-nil m
 none-of (x ∷ xs) e y m = omega arith
 
-unlocked-is : (ws : List ℕ) (i : ℕ) → unlocked ws i ≡ true → (w : Which) → lockOf ws i w ≡ 0
+pub unlocked-is : (ws : List ℕ) (i : ℕ) → unlocked ws i ≡ true → (w : Which) → lockOf ws i w ≡ 0
 unfolding unlocked
 unlocked-is ws i e State = let p = simp tests at e in p .0 .0
 unlocked-is ws i e (Edge true) = let p = simp tests at e in p .0 .1

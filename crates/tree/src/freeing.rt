@@ -1,59 +1,60 @@
 // What a sweep asks of a table, and what it does to it.
 ghost use mathlib.Core.Path.{_≡_};
 ghost use Rattle.table.specs.Pair.{slotsOf};
-ghost use Rattle.tree.specs.Judge.{every, unlocked};
-ghost use Rattle.tree.specs.Answers.{sweepable, sweptSlot, swept};
+ghost use Rattle.tree.specs.Places.{refusalOf, kept};
+ghost use Rattle.tree.specs.Answers.{sweepSays, swept};
 use crate::DELETED;
+use crate::FREE;
 use crate::judge;
 
-// Is no lock of the slot held?
-fn is_unlocked(words: &[u64], i: u64) -> bool
-    ensures { λ r. ⌜ r ≡ unlocked (now (words .entry)) i ⌝ }
+// Is no lock of the slot held, and does it, if it is data or routing, lead to no deleted slot?
+fn is_kept(words: &[u64], i: u64) -> bool
+    ensures { λ r. ⌜ r ≡ kept (now (words .entry)) i ⌝ }
 {
+    let s = table::state(words, i);
+    let l = table::state(words, table::link(words, i, true));
+    let r = table::state(words, table::link(words, i, false));
     (table::lock(words, i, table::Which::State) == 0)
         & (table::lock(words, i, table::Which::Edge(true)) == 0)
         & (table::lock(words, i, table::Which::Edge(false)) == 0)
+        & ((s == FREE) | (s == DELETED) | ((l != DELETED) & (r != DELETED)))
 }
 
-fn no_locks(words: &[u64]) -> bool
-    ensures { λ r. ⌜ r ≡ every (unlocked (now (words .entry))) (slotsOf (now (words .entry))) ⌝ }
+// 0 where the table may be swept, or the number of the refusal. A deleted slot is reached only if one that is not deleted leads
+// to one.
+pub fn refusal(words: &[u64]) -> u64
+    ensures { λ r. ⌜ r ≡ refusalOf (sweepSays (now (words .entry))) ⌝ }
 {
+    if !table::table_fine(words) {
+        return 1;
+    }
+    if table::busy(words) != 0 {
+        return 8;
+    }
+    if !judge::is_sound(words) {
+        return 6;
+    }
     let n = table::slots(words);
-    let mut ok = true;
     let mut i: u64 = 0;
     while i < n {
-        ok = ok & is_unlocked(words, i);
+        if !is_kept(words, i) {
+            return 6;
+        }
         i += 1;
     }
-    ok
+    0
 }
 
-// Sound, no lock held, no deleted slot linked?
-pub fn is_sweepable(words: &[u64]) -> bool
-    ensures { λ r. ⌜ r ≡ sweepable (now (words .entry)) ⌝ }
-{
-    if !judge::is_sound(words) {
-        return false;
-    }
-    no_locks(words) & judge::exactly(words, DELETED, DELETED, 0)
-}
-
-// A deleted slot becomes free: its words are zero.
-fn sweep_slot(words: &mut [u64], i: usize)
-    ensures { λ _. ⌜ now (words .exit) ≡ sweptSlot (now (words .entry)) i ⌝ }
-{
-    if table::state(words, i as u64) == DELETED {
-        table::zero_slot(words, i as u64);
-    }
-}
-
+// Every deleted slot becomes free: its words are zero.
 pub fn sweep_all(words: &mut [u64])
     ensures { λ _. ⌜ now (words .exit) ≡ swept (now (words .entry)) (slotsOf (now (words .entry))) ⌝ }
 {
-    let n = words.len() / 2;
-    let mut i: usize = 0;
+    let n = words.len() as u64 / 2;
+    let mut i: u64 = 0;
     while i < n {
-        sweep_slot(words, i);
+        if table::state(words, i) == DELETED {
+            table::zero_slot(words, i);
+        }
         i += 1;
     }
 }

@@ -58,13 +58,14 @@ pub fn check(words: &[u64]) -> Checked
 pub fn list_into(words: &[u64], low: u64, high: u64, out: &mut [u64]) -> Listed
     ensures { λ r. ⌜ (listedSays r ≡ listSays (now (words .entry)) low high (length (now (out .entry)))) × (now (out .exit) ≡ listHolds (now (words .entry)) low high (now (out .entry))) ⌝ }
 {
-    if !table::table_fine(words) {
-        return Listed::Refused(1);
+    let places = out.len() as u64;
+    let refused = in_order::refusal(words, low, high, places);
+    if refused != 0 {
+        return Listed::Refused(refused);
     }
-    if !judge::is_sound(words) {
-        return Listed::Refused(6);
-    }
-    in_order::put_list(words, low, high, out)
+    let n = table::slots(words);
+    let l = table::link(words, 0, true);
+    Listed::Count(in_order::fill(words, n, l, low, high, out, 0))
 }
 
 // The filled front of the caller's buffer is handed back; `said` is 0, or the number of the refusal.
@@ -103,21 +104,20 @@ pub fn first(words: &[u64], from: u64) -> FirstFrame
     }
     let n = table::slots(words);
     let l = table::link(words, 0, true);
-    in_order::least(words, n, l, from)
+    let slot = in_order::least(words, n, l, from);
+    if slot == 0 {
+        return FirstFrame::Refused(13);
+    }
+    FirstFrame::Key(table::key(words, slot))
 }
 
 // Every deleted slot becomes free; or 1, 8, 6, and nothing changes.
 pub fn sweep(words: &mut [u64]) -> table::Reply
     ensures { λ r. ⌜ (replySays r ≡ sweepSays (now (words .entry))) × (now (words .exit) ≡ sweepWords (now (words .entry))) ⌝ }
 {
-    if !table::table_fine(words) {
-        return table::Reply::Refusal(1);
-    }
-    if table::busy(words) != 0 {
-        return table::Reply::Refusal(8);
-    }
-    if !freeing::is_sweepable(words) {
-        return table::Reply::Refusal(6);
+    let refused = freeing::refusal(words);
+    if refused != 0 {
+        return table::Reply::Refusal(refused);
     }
     freeing::sweep_all(words);
     table::Reply::Done

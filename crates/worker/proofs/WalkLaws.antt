@@ -10,7 +10,7 @@ use borrow.Author.Tests.{ne-eqb, not-true}
 use Rattle.table.specs.Pair.{keyOf, linkOf}
 use Rattle.table.specs.Rules.{pairFine, tableFine}
 use Rattle.protocol.specs.Plan.{plan, actionAt}
-use Rattle.protocol.specs.Record.{roles, recordFine}
+use Rattle.protocol.specs.Record.{recordFine}
 use Rattle.protocol.specs.Locks.{Did, did}
 use Rattle.protocol.specs.Walk.{visit, onward}
 use Rattle.protocol.specs.Step.{readsFine, actStep, busyStep, workStep, stepDid}
@@ -19,6 +19,7 @@ use Rattle.protocol.specs.declared.Kind.the-variants.{Lookup}
 use Rattle.protocol.specs.declared.Work.the-variants.{Busy}
 use Rattle.protocol.specs.declared.Phase.the-variants.{Walk}
 use Rattle.protocol.specs.declared.Outcome.the-variants.{Goes}
+use Rattle.acting.proofs.ActLaws.{any-work}
 
 -- the walk may go on from the slot
 abbrev pub may : List ℕ → ℕ → ℕ → ℕ → ℕ → Bool
@@ -29,12 +30,6 @@ may ws key at prev before =
 taken-where : (b : Bool) (x c : ℕ) → c ≡ cond b x 0 → c ≢ 0 → (b ≡ true) × (x ≡ c)
 taken-where true x c e d = (refl, sym e)
 taken-where false x c e d = absurd (d e)
-
--- the record's rules do not look at the work or the sides of a walk
-pub any-work : (ws : List ℕ) (kind : Kind) (key at prev before : ℕ) (side up : Bool)
-    → recordFine ws Lookup key (Walk at prev before true true) ≡ recordFine ws kind key (Walk at prev before side up)
-unfolding recordFine roles
-any-work ws kind key at prev before side up = refl
 
 pub walks-on : (ws : List ℕ) (kind : Kind) (key at prev before : ℕ) (side up : Bool) (c : ℕ)
     → c ≡ cond (may ws key at prev before) (linkOf ws at (ltb key (keyOf ws at))) 0 → c ≢ 0

@@ -1,11 +1,17 @@
 // Workers: one insert, remove or lookup, one step at a time. `start`, `step` and `withdraw` take any words and any record
 // and come to an end; each promises the protocol's definition, refusals included.
 ghost use mathlib.Core.Path.{_≡_};
-ghost use Rattle.table.specs.Rules.{replySays};
+ghost use mathlib.Core.Bool.{true, cond, not, _&&_};
+ghost use lib.Dec.{ltb, eqb};
+ghost use Rattle.table.specs.Pair.{keyOf, linkOf};
+ghost use Rattle.table.specs.Rules.{replySays, pairFine, tableFine};
+ghost use Rattle.protocol.specs.Record.{recordFine};
 ghost use Rattle.protocol.specs.Says.{answerSays};
-ghost use Rattle.protocol.specs.Step.{stepOf};
-ghost use Rattle.protocol.specs.Calls.{judgeStart, startOf, judgeBusy, judgeWithdraw, withdrawOf};
+ghost use Rattle.protocol.specs.Step.{stepOf, idleWorker};
+ghost use Rattle.protocol.specs.Calls.{idle, judgeStart, startOf, judgeBusy, judgeWithdraw, withdrawOf};
+ghost use Rattle.protocol.specs.declared.Kind.the-variants.{Lookup};
 ghost use Rattle.protocol.specs.declared.Work.the-variants.{Busy};
+ghost use Rattle.protocol.specs.declared.Phase.the-variants.{Walk};
 use protocol::Answer;
 use protocol::Kind;
 use protocol::Outcome;
@@ -16,11 +22,21 @@ use protocol::Work;
 use protocol::Worker;
 use table::Reply;
 
-mod acting;
-mod walking;
+mod seats;
 
-// One step by the plan.
-fn any_step(words: &mut [u64], w: Worker) -> Stepped
+// The record of a worker that is not busy.
+fn idle_worker() -> Worker
+    ensures { λ r. ⌜ r ≡ idleWorker ⌝ }
+{
+    Worker {
+        work: Work::Idle,
+        key: 0,
+        phase: plan::at_root(),
+    }
+}
+
+// One step. A record that is idle or damaged is refused; that it belongs to another table is not seen.
+pub fn step(words: &mut [u64], w: Worker) -> Stepped
     ensures { λ r. ⌜ (answerSays (r .answer) ≡ stepOf (now (words .entry)) w .says) × (r .worker ≡ stepOf (now (words .entry)) w .worker) × (now (words .exit) ≡ stepOf (now (words .entry)) w .words) ⌝ }
 {
     let work = w.work;
@@ -37,14 +53,10 @@ fn any_step(words: &mut [u64], w: Worker) -> Stepped
             },
         },
         Outcome::Ends(a) => {
-            locks::leave_seat(words);
+            seats::leave_seat(words);
             Stepped {
                 answer: a,
-                worker: Worker {
-                    work: Work::Idle,
-                    key: 0,
-                    phase: plan::at_root(),
-                },
+                worker: idle_worker(),
             }
         }
         Outcome::Refuses(n) => Stepped {
@@ -54,52 +66,37 @@ fn any_step(words: &mut [u64], w: Worker) -> Stepped
     }
 }
 
-// One step. A record that is idle or damaged is refused; that it belongs to another table is not seen. A walk that goes on, which most
-// steps are, is judged on two words of the table and asks nothing of the plan.
-pub fn step(words: &mut [u64], w: Worker) -> Stepped
-    ensures { λ r. ⌜ (answerSays (r .answer) ≡ stepOf (now (words .entry)) w .says) × (r .worker ≡ stepOf (now (words .entry)) w .worker) × (now (words .exit) ≡ stepOf (now (words .entry)) w .words) ⌝ }
+// The slot that a busy walk goes on to, where rules 1 and 6 let it, the slot's key is another and there is one; else 0.
+// For a caller that keeps its records in a form of its own: a walk that goes on, which most steps are, needs no more.
+pub fn next_slot(words: &[u64], key: u64, at: u64, prev: u64, before: u64) -> u64
+    ensures { λ r. ⌜ r ≡ cond (tableFine (now (words .entry)) && recordFine (now (words .entry)) Lookup key (Walk at prev before true true) && pairFine (now (words .entry)) at && not (eqb (keyOf (now (words .entry)) at) key)) (linkOf (now (words .entry)) at (ltb key (keyOf (now (words .entry)) at))) 0 ⌝ }
 {
-    let work = w.work;
-    let key = w.key;
-    let phase = w.phase;
-    match phase {
-        Phase::Walk {
-            at,
-            prev,
-            before,
-            side,
-            ..
-        } => {
-            match work {
-                Work::Idle => any_step(words, w),
-                Work::Busy(_) => {
-                    let c = walking::next_slot(words, key, at, prev, before);
-                    if c != 0 {
-                        let d = key < table::key(words, at);
-                        return Stepped {
-                            answer: Answer::Going,
-                            worker: Worker {
-                                work,
-                                key,
-                                phase: Phase::Walk {
-                                    at: c,
-                                    prev: at,
-                                    before: prev,
-                                    side: d,
-                                    up: side,
-                                },
-                            },
-                        };
-                    }
-                    any_step(words, w)
-                }
-            }
-        }
-        _ => any_step(words, w),
+    if !table::table_fine(words) {
+        return 0;
     }
+    if !plan::walk_fine(words, key, at, prev, before) {
+        return 0;
+    }
+    if !table::pair_fine(words, at) {
+        return 0;
+    }
+    let k = table::key(words, at);
+    if k == key {
+        return 0;
+    }
+    table::link(words, at, key < k)
 }
 
 // Start and withdraw
+
+fn is_idle(work: Work) -> bool
+    ensures { λ r. ⌜ r ≡ idle work ⌝ }
+{
+    match work {
+        Work::Idle => true,
+        Work::Busy(_) => false,
+    }
+}
 
 // 1, 2, 3, 4, or 0.
 fn judge_start(words: &[u64], work: Work, key: u64) -> u64
@@ -108,7 +105,7 @@ fn judge_start(words: &[u64], work: Work, key: u64) -> u64
     if !table::table_fine(words) {
         return 1;
     }
-    if !plan::is_idle(work) {
+    if !is_idle(work) {
         return 2;
     }
     if !moment::legal(key) {
@@ -127,7 +124,7 @@ pub fn start(words: &mut [u64], w: Worker, kind: Kind, key: u64) -> Replied
     let work = w.work;
     let j = judge_start(words, work, key);
     if j == 0 {
-        locks::take_seat(words);
+        seats::take_seat(words);
         return Replied {
             reply: Reply::Done,
             worker: Worker {
@@ -184,14 +181,10 @@ pub fn withdraw(words: &mut [u64], w: Worker) -> Replied
     if j == 0 {
         let done = plan::done_of(phase);
         locks::release_all(words, phase, done);
-        locks::leave_seat(words);
+        seats::leave_seat(words);
         return Replied {
             reply: Reply::Done,
-            worker: Worker {
-                work: Work::Idle,
-                key: 0,
-                phase: plan::at_root(),
-            },
+            worker: idle_worker(),
         };
     }
     Replied {

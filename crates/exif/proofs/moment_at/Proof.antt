@@ -35,7 +35,12 @@ two-at-requires-6 c κs = search needs
 
 returns : tie.Need-returns
 unfolding momentAt
-returns c = cc
+returns c =
+    let e = c .before in
+    let d = e .before in
+    let b = d .before in
+    let a = b .before in
+    rw (a .before .two-at .ensures .0, a .two-at2 .ensures .0, b .two-at3 .ensures .0, d .two-at4 .ensures .0, e .two-at5 .ensures .0, c .two-at6 .ensures .0)
 
 pub moment-at-spec : {M : Type 1} → statement M
 moment-at-spec =

@@ -20,7 +20,7 @@ add-result c = search needs
 
 returns : tie.Need-returns
 unfolding twoAt
-returns c = (cc, search needs)
+returns c = (rw (c .before .digit-at .ensures .0, c .digit-at2 .ensures .0), search needs)
 
 pub two-at-spec : {M : Type 1} → statement M
 two-at-spec =

@@ -25,10 +25,10 @@ loop-holds : tie.Need-loop-holds Inv-loop μ-loop
 loop-holds c = record { within = search needs; holds = held-none _ _ }
 
 action-at-requires : tie.Need-action-at-requires Inv-loop μ-loop
-action-at-requires c κs = search needs
+action-at-requires c κs = tt
 
 held-one-requires : tie.Need-held-one-requires Inv-loop μ-loop
-held-one-requires c κs = search needs
+held-one-requires c κs = tt
 
 add-i : tie.Need-add-i Inv-loop μ-loop
 add-i c = search needs

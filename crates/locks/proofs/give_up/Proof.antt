@@ -6,10 +6,10 @@ use Rattle.locks.proofs.give_up.Statement.{statement}
 use Rattle.locks.proofs.give_up.Tie as tie
 
 all-held-requires : tie.Need-all-held-requires
-all-held-requires c κs = search needs
+all-held-requires c κs = tt
 
 release-all-requires : tie.Need-release-all-requires
-release-all-requires c κs = search needs
+release-all-requires c κs = tt
 
 same-length : tie.Need-same-length
 same-length c = search needs

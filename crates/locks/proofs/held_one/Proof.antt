@@ -1,20 +1,19 @@
 use Rattle.protocol.specs.Locks.{heldOne}
 use Rattle.locks.proofs.Other.{held-other}
-use borrow.Author.Needs.{needs}
 use Rattle.locks.proofs.held_one.Statement.{statement}
 use Rattle.locks.proofs.held_one.Tie as tie
 
 enum-known-a : tie.Need-enum-known-a
-enum-known-a c = search needs
+enum-known-a c = c .match .keys1
 
 lock-requires : tie.Need-lock-requires
-lock-requires c κs = search needs
+lock-requires c κs = tt
 
 pair-fine-requires : tie.Need-pair-fine-requires
-pair-fine-requires c κs = search needs
+pair-fine-requires c κs = tt
 
 is-held-requires : tie.Need-is-held-requires
-is-held-requires c κs = search needs
+is-held-requires c κs = tt
 
 returns : tie.Need-returns
 unfolding heldOne

@@ -1,34 +1,33 @@
 use Rattle.protocol.specs.Locks.{linksFit}
-use borrow.Author.Needs.{needs}
 use Rattle.locks.proofs.links_fit.Statement.{statement}
 use Rattle.locks.proofs.links_fit.Tie as tie
 
 enum-told : tie.Need-enum-told
-enum-told c = search needs
+enum-told c = c .match .keys1
 
 enum-known-links : tie.Need-enum-known-links
-enum-known-links c = search needs
+enum-known-links c = c .match .keys2
 
 link-requires : tie.Need-link-requires
-link-requires c κs = search needs
+link-requires c κs = tt
 
 enum-told-2 : tie.Need-enum-told-2
-enum-told-2 c = search needs
+enum-told-2 c = c .match .keys3
 
 link-requires-2 : tie.Need-link-requires-2
-link-requires-2 c κs = search needs
+link-requires-2 c κs = tt
 
 link-requires-3 : tie.Need-link-requires-3
-link-requires-3 c κs = search needs
+link-requires-3 c κs = tt
 
 enum-told-3 : tie.Need-enum-told-3
-enum-told-3 c = search needs
+enum-told-3 c = c .match .keys4
 
 link-requires-4 : tie.Need-link-requires-4
-link-requires-4 c κs = search needs
+link-requires-4 c κs = tt
 
 link-requires-5 : tie.Need-link-requires-5
-link-requires-5 c κs = search needs
+link-requires-5 c κs = tt
 
 returns : tie.Need-returns
 unfolding linksFit

@@ -9,13 +9,13 @@ use Rattle.locks.proofs.lock_step.Statement.{statement}
 use Rattle.locks.proofs.lock_step.Tie as tie
 
 is-granted-requires : tie.Need-is-granted-requires
-is-granted-requires c κs = search needs
+is-granted-requires c κs = tt
 
 at-root-requires : tie.Need-at-root-requires
-at-root-requires c κs = search needs
+at-root-requires c κs = tt
 
 give-up-requires : tie.Need-give-up-requires
-give-up-requires c κs = search needs
+give-up-requires c κs = tt
 
 same-length : tie.Need-same-length
 same-length c = search needs
@@ -27,10 +27,10 @@ returns c = let q = sym (c .before .before .before .before .before .before .is-g
     (simp q (g .0), simp q (g .1))
 
 lock-requires : tie.Need-lock-requires
-lock-requires c κs = search needs
+lock-requires c κs = tt
 
 is-crowded-requires : tie.Need-is-crowded-requires
-is-crowded-requires c κs = search needs
+is-crowded-requires c κs = tt
 
 same-length-2 : tie.Need-same-length-2
 same-length-2 c = search needs
@@ -42,7 +42,7 @@ returns-2 c = let q = sym (c .before .before .before .before .before .is-granted
     (simp (q, w), simp (q, w))
 
 weight-of-requires : tie.Need-weight-of-requires
-weight-of-requires c κs = search needs
+weight-of-requires c κs = tt
 
 add-y : tie.Need-add-y
 add-y c = let a = c .before .before .before .before .before .before .before .before .before .args in
@@ -51,7 +51,7 @@ add-y c = let a = c .before .before .before .before .before .before .before .bef
     record { fits = omega (arith, lock-lt (a .which) (a .words .now) (a .slot), weight-lt (a .write)) }
 
 set-lock-requires : tie.Need-set-lock-requires
-set-lock-requires c κs = search needs
+set-lock-requires c κs = tt
 
 same-length-3 : tie.Need-same-length-3
 same-length-3 c = search needs

@@ -26,10 +26,10 @@ loop-holds : tie.Need-loop-holds Inv-loop μ-loop
 loop-holds c = record { within = search needs; same = refl; holds = released-none _ _ }
 
 action-at-requires : tie.Need-action-at-requires Inv-loop μ-loop
-action-at-requires c κs = search needs
+action-at-requires c κs = tt
 
 release-one-requires : tie.Need-release-one-requires Inv-loop μ-loop
-release-one-requires c κs = search needs
+release-one-requires c κs = tt
 
 add-i : tie.Need-add-i Inv-loop μ-loop
 add-i c = search needs

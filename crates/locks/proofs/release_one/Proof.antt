@@ -5,19 +5,19 @@ use Rattle.locks.proofs.release_one.Statement.{statement}
 use Rattle.locks.proofs.release_one.Tie as tie
 
 enum-known-a : tie.Need-enum-known-a
-enum-known-a c = search needs
+enum-known-a c = c .match .keys1
 
 lock-requires : tie.Need-lock-requires
-lock-requires c κs = search needs
+lock-requires c κs = tt
 
 weight-of-requires : tie.Need-weight-of-requires
-weight-of-requires c κs = search needs
+weight-of-requires c κs = tt
 
 less-requires : tie.Need-less-requires
-less-requires c κs = search needs
+less-requires c κs = tt
 
 set-lock-requires : tie.Need-set-lock-requires
-set-lock-requires c κs = search needs
+set-lock-requires c κs = tt
 
 same-length : tie.Need-same-length
 same-length c = search needs

@@ -11,7 +11,7 @@ moment-exists-requires c κs = search needs
 
 returns : tie.Need-returns
 unfolding inRange
-returns c = cc
+returns c = let b = c .before .before .before in rw (b .moment-exists .ensures, b .before .moment-of .ensures)
 
 pub in-range-spec : {M : Type 1} → statement M
 in-range-spec = tie.close (tie.spec moment-of-requires moment-exists-requires returns)

@@ -11,7 +11,7 @@ time-exists-requires c κs = search needs
 
 returns : tie.Need-returns
 unfolding momentExists
-returns c = cc
+returns c = rw (c .before .date-exists .ensures, c .time-exists .ensures)
 
 pub moment-exists-spec : {M : Type 1} → statement M
 moment-exists-spec = tie.close (tie.spec date-exists-requires time-exists-requires returns)

@@ -24,10 +24,10 @@ loop-holds : tie.Need-loop-holds Inv-loop μ-loop
 loop-holds c = record { within = search needs; holds = stored-none _ }
 
 action-at-requires : tie.Need-action-at-requires Inv-loop μ-loop
-action-at-requires c κs = search needs
+action-at-requires c κs = tt
 
 is-store-requires : tie.Need-is-store-requires Inv-loop μ-loop
-is-store-requires c κs = search needs
+is-store-requires c κs = tt
 
 add-i : tie.Need-add-i Inv-loop μ-loop
 add-i c = search needs

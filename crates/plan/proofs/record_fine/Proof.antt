@@ -1,19 +1,18 @@
 use Rattle.protocol.specs.Record.{recordFine}
-use borrow.Author.Needs.{needs}
 use Rattle.plan.proofs.record_fine.Statement.{statement}
 use Rattle.plan.proofs.record_fine.Tie as tie
 
 slots-requires : tie.Need-slots-requires
-slots-requires c κs = search needs
+slots-requires c κs = tt
 
 legal-requires : tie.Need-legal-requires
-legal-requires c κs = search needs
+legal-requires c κs = tt
 
 roles-fine-requires : tie.Need-roles-fine-requires
-roles-fine-requires c κs = search needs
+roles-fine-requires c κs = tt
 
 busy-requires : tie.Need-busy-requires
-busy-requires c κs = search needs
+busy-requires c κs = tt
 
 returns : tie.Need-returns
 unfolding recordFine

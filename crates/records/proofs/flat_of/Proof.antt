@@ -11,7 +11,7 @@ phase-flat-requires c κs = search needs
 
 returns : tie.Need-returns
 unfolding flatOf
-returns c = cc
+returns c = rw (c .before .work-number .ensures) at (c .phase-flat .ensures)
 
 pub flat-of-spec : {M : Type 1} → statement M
 flat-of-spec = tie.close (tie.spec work-number-requires phase-flat-requires returns)

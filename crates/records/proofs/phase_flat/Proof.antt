@@ -1,3 +1,4 @@
+use Rattle.records.proofs.Removers.{remover}
 use borrow.Author.Needs.{needs}
 use Rattle.records.proofs.phase_flat.Statement.{statement}
 use Rattle.records.proofs.phase_flat.Tie as tie
@@ -26,29 +27,8 @@ enum-known-p-4 c = search needs
 noted-requires-4 : tie.Need-noted-requires-4
 noted-requires-4 c κs = search needs
 
-enum-known-p-5 : tie.Need-enum-known-p-5
-enum-known-p-5 c = search needs
-
-noted-requires-5 : tie.Need-noted-requires-5
-noted-requires-5 c κs = search needs
-
-enum-known-p-6 : tie.Need-enum-known-p-6
-enum-known-p-6 c = search needs
-
-noted-requires-6 : tie.Need-noted-requires-6
-noted-requires-6 c κs = search needs
-
-enum-known-p-7 : tie.Need-enum-known-p-7
-enum-known-p-7 c = search needs
-
-noted-requires-7 : tie.Need-noted-requires-7
-noted-requires-7 c κs = search needs
-
-enum-known-p-8 : tie.Need-enum-known-p-8
-enum-known-p-8 c = search needs
-
-noted-requires-8 : tie.Need-noted-requires-8
-noted-requires-8 c κs = search needs
+remover-flat-requires : tie.Need-remover-flat-requires
+remover-flat-requires c κs = search needs
 
 returns : tie.Need-returns
 returns c = rw (c .before .before .p .given .1) (c .noted .ensures)
@@ -63,16 +43,7 @@ returns-4 : tie.Need-returns-4
 returns-4 c = rw (c .before .before .p4 .given .1) (c .noted4 .ensures)
 
 returns-5 : tie.Need-returns-5
-returns-5 c = rw (c .before .before .p5 .given .1) (c .noted5 .ensures)
-
-returns-6 : tie.Need-returns-6
-returns-6 c = rw (c .before .before .p6 .given .1) (c .noted6 .ensures)
-
-returns-7 : tie.Need-returns-7
-returns-7 c = rw (c .before .before .p7 .given .1) (c .noted7 .ensures)
-
-returns-8 : tie.Need-returns-8
-returns-8 c = rw (c .before .before .p8 .given .1) (c .noted8 .ensures)
+returns-5 c = c .remover-flat .ensures (remover (c .before .before .args .p) (c .before .match .keys5))
 
 pub phase-flat-spec : {M : Type 1} → statement M
 phase-flat-spec =
@@ -86,19 +57,9 @@ phase-flat-spec =
     noted-requires-3
     enum-known-p-4
     noted-requires-4
-    enum-known-p-5
-    noted-requires-5
-    enum-known-p-6
-    noted-requires-6
-    enum-known-p-7
-    noted-requires-7
-    enum-known-p-8
-    noted-requires-8
+    remover-flat-requires
     returns
     returns-2
     returns-3
     returns-4
-    returns-5
-    returns-6
-    returns-7
-    returns-8)
+    returns-5)

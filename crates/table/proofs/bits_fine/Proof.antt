@@ -4,8 +4,8 @@ use borrow.Author.Needs.{needs}
 use Rattle.table.proofs.bits_fine.Statement.{statement}
 use Rattle.table.proofs.bits_fine.Tie as tie
 
-word-requires : tie.Need-word-requires
-word-requires c κs = search needs
+fields-requires : tie.Need-fields-requires
+fields-requires c κs = search needs
 
 slots-requires : tie.Need-slots-requires
 slots-requires c κs = search needs
@@ -15,7 +15,7 @@ word-fine-requires c κs = search needs
 
 returns : tie.Need-returns
 unfolding bitsFine wordFine fieldOf
-returns c = rw (c .word-fine .ensures, c .before .before .word .ensures, c .before .slots .ensures)
+returns c = rw (c .word-fine .ensures, c .before .before .fields .ensures, c .before .slots .ensures)
 
 pub bits-fine-spec : {M : Type 1} → statement M
-bits-fine-spec = tie.close (tie.spec word-requires slots-requires word-fine-requires returns)
+bits-fine-spec = tie.close (tie.spec fields-requires slots-requires word-fine-requires returns)

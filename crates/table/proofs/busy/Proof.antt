@@ -1,3 +1,5 @@
+use mathlib.Core.Path.{refl, _∙_}
+use Rattle.table.proofs.PairLaws.{field-at}
 use borrow.Author.Needs.{needs}
 use Rattle.table.proofs.busy.Statement.{statement}
 use Rattle.table.proofs.busy.Tie as tie
@@ -6,7 +8,7 @@ field-requires : tie.Need-field-requires
 field-requires c κs = search needs
 
 returns : tie.Need-returns
-returns c = c .field .ensures
+returns c = c .field .ensures ∙ field-at 6 19 5 _ _ refl refl
 
 pub busy-spec : {M : Type 1} → statement M
 busy-spec = tie.close (tie.spec field-requires returns)

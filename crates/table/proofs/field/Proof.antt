@@ -1,36 +1,28 @@
-use Rattle.layout.proofs.LayoutLaws.{getD-poses}
-use Rattle.table.specs.Pair.{layout, fieldOf}
-use Rattle.table.proofs.PairLaws.{reach, field-out}
+use native.Mathlib.Omega.{arith}
+use lib.Pow.{pow-pos}
+use Rattle.layout.proofs.WordLaws.{one-shifted}
 use borrow.Author.Needs.{needs}
 use Rattle.table.proofs.field.Statement.{statement}
 use Rattle.table.proofs.field.Tie as tie
 
-returns : tie.Need-returns
-returns c = field-out _ _ _ (c .if1 .taken)
-
-mul-p : tie.Need-mul-p
-mul-p c = search needs
-
-array-read-p : tie.Need-array-read-p
-array-read-p c = search needs
-
-mul-w : tie.Need-mul-w
-mul-w c = search needs
-
-array-read-w : tie.Need-array-read-w
-array-read-w c = search needs
-
 word-requires : tie.Need-word-requires
 word-requires c κs = search needs
 
-bits-requires : tie.Need-bits-requires
-bits-requires c κs = let r = reach (c .before .before .before .args .f) (search needs) in (r .0, r .1)
+shr-result : tie.Need-shr-result
+shr-result c = search needs
 
-returns-2 : tie.Need-returns-2
-unfolding fieldOf
-returns-2 c = rw (← (getD-poses layout (c .before .before .before .before .args .f)), ← (c .before .word .ensures)) (c .bits .ensures)
+shl-result : tie.Need-shl-result
+shl-result c = search needs
+
+rem-result : tie.Need-rem-result
+rem-result c =
+    let b = c .before .before in
+    omega (arith, one-shifted 64 (b .args .w) (b .pre .1), pow-pos (b .args .w))
+
+returns : tie.Need-returns
+returns c =
+    let b = c .before .before in
+    rw (one-shifted 64 (b .args .w) (b .pre .1), c .word .ensures)
 
 pub field-spec : {M : Type 1} → statement M
-field-spec =
-    tie.close
-    (tie.spec returns mul-p array-read-p mul-w array-read-w word-requires bits-requires returns-2)
+field-spec = tie.close (tie.spec word-requires shr-result shl-result rem-result returns)

@@ -1,41 +1,47 @@
 use mathlib.Core.Path.{sym, _∙_}
-use Rattle.layout.proofs.LayoutLaws.{getD-poses}
-use Rattle.table.specs.Pair.{layout}
-use Rattle.table.proofs.PairLaws.{reach, size-at, set-field-out, setField-fits, setField-big}
+use Rattle.layout.proofs.WordLaws.{put-lt}
+use Rattle.table.proofs.PairLaws.{bits-fit, bits-big, size-of, code-le, code-put}
 use borrow.Author.Needs.{needs}
 use Rattle.table.proofs.set_field.Statement.{statement}
 use Rattle.table.proofs.set_field.Tie as tie
 
+shl-size : tie.Need-shl-size
+shl-size c = search needs
+
 returns : tie.Need-returns
-returns c = set-field-out _ _ _ _ (c .if1 .taken)
-
-mul-s : tie.Need-mul-s
-mul-s c = search needs
-
-array-read-s : tie.Need-array-read-s
-array-read-s c = search needs
-
-returns-2 : tie.Need-returns-2
-returns-2 c = sym (setField-big (c .before .before .before .args .f) _ _ _ (rw (← (size-at (c .before .before .before .args .f) (search needs))) (c .if2 .taken)))
-
-mul-p : tie.Need-mul-p
-mul-p c = search needs
-
-array-read-p : tie.Need-array-read-p
-array-read-p c = search needs
-
-mul-w : tie.Need-mul-w
-mul-w c = search needs
-
-array-read-w : tie.Need-array-read-w
-array-read-w c = search needs
+returns c =
+    let b = c .before .before in
+    bits-big _ _ (b .args .p) (b .args .w) _ (rw (← (size-of (b .args .w) (b .pre .1))) (c .if1 .taken))
 
 word-requires : tie.Need-word-requires
 word-requires c κs = search needs
 
-with-bits-requires : tie.Need-with-bits-requires
-with-bits-requires c κs = let r = reach (c .before .before .before .before .before .args .f) (search needs) in
-    (r .0, r .1, r .2, rw (← (size-at (c .before .before .before .before .before .args .f) (search needs))) (c .before .before .if2 .left))
+shr-y : tie.Need-shr-y
+shr-y c = search needs
+
+rem-y : tie.Need-rem-y
+rem-y c = search needs
+
+shl-y : tie.Need-shl-y
+shl-y c = search needs
+
+sub-y : tie.Need-sub-y
+sub-y c =
+    let b = c .before .before .before .before in
+    code-le (b .args .p) (b .args .w) (c .word .result) (b .pre .1) (b .pre .2)
+
+shl-y-2 : tie.Need-shl-y-2
+shl-y-2 c = search needs
+
+add-y : tie.Need-add-y
+add-y c =
+    let b = c .before .before .before .before in
+    let a = b .args in
+    let h = rw (size-of (a .w) (b .pre .1)) at (c .before .before .if1 .left) in
+    record {
+      fits = rw (code-put (a .p) (a .w) (c .word .result) (a .v) (b .pre .1) (b .pre .2) h)
+          (put-lt 64 (a .p) (a .w) (c .word .result) (a .v) (b .pre .2) (search needs) h);
+    }
 
 set-word-requires : tie.Need-set-word-requires
 set-word-requires c κs = search needs
@@ -43,25 +49,28 @@ set-word-requires c κs = search needs
 same-length : tie.Need-same-length
 same-length c = search needs
 
-returns-3 : tie.Need-returns-3
-returns-3 c = let a = c .before .before .before .before .before .before .before .before .before .before .args in
-    rw (← (getD-poses layout (a .f)), ← (c .before .before .before .before .before .word .ensures), ← (c .before .before .before .before .with-bits .ensures)) (c .before .before .set-word .ensures)
-    ∙ sym (setField-fits (a .f) _ _ _ (rw (← (size-at (a .f) (search needs))) (c .before .before .before .before .before .before .before .if2 .left)))
+returns-2 : tie.Need-returns-2
+returns-2 c =
+    let d = c .before .before .before .before in
+    let b = d .before .before .before .before in
+    let a = b .args in
+    let h = rw (size-of (a .w) (b .pre .1)) at (d .before .before .if1 .left) in
+    rw (code-put (a .p) (a .w) (d .word .result) (a .v) (b .pre .1) (b .pre .2) h, d .word .ensures) at (c .before .before .set-word .ensures)
+    ∙ sym (bits-fit _ _ (a .p) (a .w) (a .v) h)
 
 pub set-field-spec : {M : Type 1} → statement M
 set-field-spec =
     tie.close
     (tie.spec
+    shl-size
     returns
-    mul-s
-    array-read-s
-    returns-2
-    mul-p
-    array-read-p
-    mul-w
-    array-read-w
     word-requires
-    with-bits-requires
+    shr-y
+    rem-y
+    shl-y
+    sub-y
+    shl-y-2
+    add-y
     set-word-requires
     same-length
-    returns-3)
+    returns-2)

@@ -5,17 +5,20 @@ use borrow.Author.Needs.{needs}
 use Rattle.table.proofs.set_word.Statement.{statement}
 use Rattle.table.proofs.set_word.Tie as tie
 
+add-n : tie.Need-add-n
+add-n c = search needs
+
+sub-n : tie.Need-sub-n
+sub-n c = search needs
+
 returns : tie.Need-returns
 returns c = set-word-beyond _ _ _ _ (omega arith)
 
-mul-j : tie.Need-mul-j
-mul-j c = search needs
+mul-at : tie.Need-mul-at
+mul-at c = search needs
 
-add-j : tie.Need-add-j
-add-j c = search needs
-
-returns-2 : tie.Need-returns-2
-returns-2 c = set-word-beyond _ _ _ _ (omega arith)
+add-at : tie.Need-add-at
+add-at c = search needs
 
 mul-t : tie.Need-mul-t
 mul-t c = search needs
@@ -26,10 +29,11 @@ slice-write-t c = search needs
 same-length : tie.Need-same-length
 same-length c = search needs
 
-returns-3 : tie.Need-returns-3
+returns-2 : tie.Need-returns-2
 unfolding setWord
-returns-3 c = search needs
+returns-2 c = search needs
 
 pub set-word-spec : {M : Type 1} → statement M
 set-word-spec =
-    tie.close (tie.spec returns mul-j add-j returns-2 mul-t slice-write-t same-length returns-3)
+    tie.close
+    (tie.spec add-n sub-n returns mul-at add-at mul-t slice-write-t same-length returns-2)

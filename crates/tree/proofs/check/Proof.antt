@@ -1,12 +1,11 @@
 use Rattle.tree.specs.Answers.{checkSays}
 use borrow.Author.Tests.{not-true, not-false}
 use mathlib.Core.Path.{sym, _∙_}
-use borrow.Author.Needs.{needs}
 use Rattle.tree.proofs.check.Statement.{statement}
 use Rattle.tree.proofs.check.Tie as tie
 
 table-fine-requires : tie.Need-table-fine-requires
-table-fine-requires c κs = search needs
+table-fine-requires c κs = tt
 
 returns : tie.Need-returns
 unfolding checkSays
@@ -14,7 +13,8 @@ returns c = let f = c .before .table-fine in
     rw (sym (f .ensures) ∙ not-true (f .result) (c .if1 .taken))
 
 is-sound-requires : tie.Need-is-sound-requires
-is-sound-requires c κs = search needs
+is-sound-requires c κs = let f = c .before .table-fine in
+    sym (f .ensures) ∙ not-false (f .result) (c .if1 .left)
 
 returns-2 : tie.Need-returns-2
 unfolding checkSays

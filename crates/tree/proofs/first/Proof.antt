@@ -1,13 +1,22 @@
-use Rattle.tree.proofs.Answering.{head-done}
+use Rattle.table.specs.Rules.{tableFine}
+use Rattle.tree.specs.Judge.{soundOf}
+use Rattle.tree.proofs.Heads.{slot-none, slot-some}
+use mathlib.Core.Bool.{true}
 use Rattle.tree.specs.Answers.{firstSays}
 use borrow.Author.Tests.{not-true, not-false}
-use mathlib.Core.Path.{sym, _∙_}
+use mathlib.Core.Path.{_≡_, sym, _∙_}
 use borrow.Author.Needs.{needs}
 use Rattle.tree.proofs.first.Statement.{statement}
 use Rattle.tree.proofs.first.Tie as tie
 
+fine : (c : tie.Else1) → tableFine (c .before .before .before .args .words .now) ≡ true
+fine c = let f = c .before .table-fine in sym (f .ensures) ∙ not-false (f .result) (c .if1 .left)
+
+sound : (c : tie.Else2) → soundOf (c .before .before .before .before .before .args .words .now) ≡ true
+sound c = let s = c .before .is-sound in sym (s .ensures) ∙ not-false (s .result) (c .if2 .left)
+
 table-fine-requires : tie.Need-table-fine-requires
-table-fine-requires c κs = search needs
+table-fine-requires c κs = tt
 
 returns : tie.Need-returns
 unfolding firstSays
@@ -15,32 +24,40 @@ returns c = let f = c .before .table-fine in
     rw (sym (f .ensures) ∙ not-true (f .result) (c .if1 .taken))
 
 is-sound-requires : tie.Need-is-sound-requires
-is-sound-requires c κs = search needs
+is-sound-requires c κs = fine c
 
 returns-2 : tie.Need-returns-2
 unfolding firstSays
 returns-2 c = let s = c .before in
-    let f = s .before .before .table-fine in
-    rw (sym (f .ensures) ∙ not-false (f .result) (s .before .if1 .left), sym (s .is-sound .ensures) ∙ not-true (s .is-sound .result) (c .if2 .taken))
+    rw (fine (s .before), sym (s .is-sound .ensures) ∙ not-true (s .is-sound .result) (c .if2 .taken))
 
 slots-requires : tie.Need-slots-requires
-slots-requires c κs = search needs
+slots-requires c κs = tt
 
 link-requires : tie.Need-link-requires
-link-requires c κs = search needs
+link-requires c κs = tt
 
 least-requires : tie.Need-least-requires
 least-requires c κs = search needs
 
 returns-3 : tie.Need-returns-3
 unfolding firstSays
-returns-3 c = let l = c .before in
+returns-3 c = let p = c .before in
+    let l = p .before in
     let n = l .before in
     let e = n .before in
-    let s = e .before in
-    let f = s .before .before .table-fine in
-    rw (sym (f .ensures) ∙ not-false (f .result) (s .before .if1 .left), sym (s .is-sound .ensures) ∙ not-false (s .is-sound .result) (e .if2 .left))
-    (head-done _ _ _ (n .slots .ensures) (l .link .ensures) _ _ (c .least .ensures))
+    rw (fine (e .before .before), sound e) (slot-none _ _ _ _ _ (n .slots .ensures) (l .link .ensures) (p .least .ensures) (c .if3 .taken))
+
+key-requires : tie.Need-key-requires
+key-requires c κs = tt
+
+returns-4 : tie.Need-returns-4
+unfolding firstSays
+returns-4 c = let p = c .before .before in
+    let l = p .before in
+    let n = l .before in
+    let e = n .before in
+    rw (fine (e .before .before), sound e) (slot-some _ _ _ _ _ (n .slots .ensures) (l .link .ensures) (p .least .ensures) (c .before .if3 .left) _ (c .key .ensures))
 
 pub first-spec : {M : Type 1} → statement M
 first-spec =
@@ -53,4 +70,6 @@ first-spec =
     slots-requires
     link-requires
     least-requires
-    returns-3)
+    returns-3
+    key-requires
+    returns-4)

@@ -7,7 +7,7 @@ use Rattle.tree.proofs.list.Statement.{statement}
 use Rattle.tree.proofs.list.Tie as tie
 
 list-into-requires : tie.Need-list-into-requires
-list-into-requires c κs = search needs
+list-into-requires c κs = tt
 
 enum-known-a : tie.Need-enum-known-a
 enum-known-a c = search needs

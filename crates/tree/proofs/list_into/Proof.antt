@@ -1,54 +1,44 @@
-use Rattle.tree.specs.Answers.{listSays, listHolds}
-use borrow.Author.Tests.{not-true, not-false}
+use Rattle.tree.proofs.Answering.{list-numbered, list-room, list-done}
 use mathlib.Core.Path.{sym, _∙_}
 use borrow.Author.Needs.{needs}
 use Rattle.tree.proofs.list_into.Statement.{statement}
 use Rattle.tree.proofs.list_into.Tie as tie
 
-table-fine-requires : tie.Need-table-fine-requires
-table-fine-requires c κs = search needs
+refusal-requires : tie.Need-refusal-requires
+refusal-requires c κs = tt
 
 returns : tie.Need-returns
-unfolding listSays listHolds
-returns c = let f = c .before .table-fine in
-    let e = sym (f .ensures) ∙ not-true (f .result) (c .if1 .taken) in
-    (rw e, rw e)
+returns c = list-numbered _ _ _ _ _ (c .before .refusal .ensures) (c .if1 .taken)
 
-is-sound-requires : tie.Need-is-sound-requires
-is-sound-requires c κs = search needs
+slots-requires : tie.Need-slots-requires
+slots-requires c κs = tt
 
-returns-2 : tie.Need-returns-2
-unfolding listSays listHolds
-returns-2 c = let s = c .before in
-    let f = s .before .before .table-fine in
-    let e = sym (f .ensures) ∙ not-false (f .result) (s .before .if1 .left) in
-    let g = sym (s .is-sound .ensures) ∙ not-true (s .is-sound .result) (c .if2 .taken) in
-    (rw (e, g), rw (e, g))
+link-requires : tie.Need-link-requires
+link-requires c κs = tt
 
-put-list-requires : tie.Need-put-list-requires
-put-list-requires c κs = search needs
+fill-requires : tie.Need-fill-requires
+fill-requires c κs = let l = c .before in
+    let e = l .before .before in
+    let a = e .before .before .before .before .args in
+    list-room (a .words .now) _ _ (l .before .slots .ensures) (l .link .ensures) (a .low) (a .high) (a .out .now) (sym (e .before .refusal .ensures) ∙ e .if1 .left)
 
 same-length : tie.Need-same-length
 same-length c = search needs
 
-returns-3 : tie.Need-returns-3
-unfolding listSays listHolds
-returns-3 c = let p = c .before .before in
-    let i = p .before .before in
-    let s = i .before in
-    let f = s .before .before .table-fine in
-    let e = sym (f .ensures) ∙ not-false (f .result) (s .before .if1 .left) in
-    let g = sym (s .is-sound .ensures) ∙ not-false (s .is-sound .result) (i .if2 .left) in
-    (rw (e, g) (p .put-list .ensures .0), rw (e, g) (p .put-list .ensures .1))
+returns-2 : tie.Need-returns-2
+returns-2 c = let f = c .before .before in
+    let l = f .before .before in
+    let e = l .before .before in
+    list-done _ _ _ (l .before .slots .ensures) (l .link .ensures) _ _ _ (sym (e .before .refusal .ensures) ∙ e .if1 .left) _ _ (f .fill .ensures)
 
 pub list-into-spec : {M : Type 1} → statement M
 list-into-spec =
     tie.close
     (tie.spec
-    table-fine-requires
+    refusal-requires
     returns
-    is-sound-requires
-    returns-2
-    put-list-requires
+    slots-requires
+    link-requires
+    fill-requires
     same-length
-    returns-3)
+    returns-2)

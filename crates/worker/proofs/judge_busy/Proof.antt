@@ -3,22 +3,21 @@ use mathlib.Core.Bool.{false}
 use Rattle.protocol.specs.Locks.{allHeld}
 use borrow.Author.Tests.{not-true, not-false}
 use Rattle.protocol.specs.Calls.{judgeBusy}
-use borrow.Author.Needs.{needs}
 use Rattle.worker.proofs.judge_busy.Statement.{statement}
 use Rattle.worker.proofs.judge_busy.Tie as tie
 
 record-fine-requires : tie.Need-record-fine-requires
-record-fine-requires c κs = search needs
+record-fine-requires c κs = tt
 
 returns : tie.Need-returns
 unfolding judgeBusy
 returns c = simp (sym (c .before .record-fine .ensures) ∙ not-true (c .before .record-fine .result) (c .if1 .taken))
 
 done-of-requires : tie.Need-done-of-requires
-done-of-requires c κs = search needs
+done-of-requires c κs = tt
 
 all-held-requires : tie.Need-all-held-requires
-all-held-requires c κs = search needs
+all-held-requires c κs = tt
 
 returns-2 : tie.Need-returns-2
 unfolding judgeBusy
@@ -29,7 +28,7 @@ returns-2 c = let p = sym (c .before .before .before .before .record-fine .ensur
     simp (p, q)
 
 has-stored-requires : tie.Need-has-stored-requires
-has-stored-requires c κs = search needs
+has-stored-requires c κs = tt
 
 returns-3 : tie.Need-returns-3
 unfolding judgeBusy

@@ -1,19 +1,18 @@
 use mathlib.Core.Path.{sym, _∙_}
 use borrow.Author.Tests.{not-true, not-false, le-leb, lt-leb}
 use Rattle.protocol.specs.Calls.{judgeStart}
-use borrow.Author.Needs.{needs}
 use Rattle.worker.proofs.judge_start.Statement.{statement}
 use Rattle.worker.proofs.judge_start.Tie as tie
 
 table-fine-requires : tie.Need-table-fine-requires
-table-fine-requires c κs = search needs
+table-fine-requires c κs = tt
 
 returns : tie.Need-returns
 unfolding judgeStart
 returns c = simp (sym (c .before .table-fine .ensures) ∙ not-true (c .before .table-fine .result) (c .if1 .taken))
 
 is-idle-requires : tie.Need-is-idle-requires
-is-idle-requires c κs = search needs
+is-idle-requires c κs = tt
 
 returns-2 : tie.Need-returns-2
 unfolding judgeStart
@@ -22,7 +21,7 @@ returns-2 c = let p = sym (c .before .before .before .table-fine .ensures) ∙ n
     simp (p, q)
 
 legal-requires : tie.Need-legal-requires
-legal-requires c κs = search needs
+legal-requires c κs = tt
 
 returns-3 : tie.Need-returns-3
 unfolding judgeStart
@@ -32,7 +31,7 @@ returns-3 c = let p = sym (c .before .before .before .before .before .table-fine
     simp (p, q, l)
 
 busy-requires : tie.Need-busy-requires
-busy-requires c κs = search needs
+busy-requires c κs = tt
 
 returns-4 : tie.Need-returns-4
 unfolding judgeStart

@@ -1,25 +1,24 @@
 use mathlib.Core.Path.{sym, _∙_}
 use borrow.Author.Tests.{not-true, not-false}
 use Rattle.protocol.specs.Calls.{judgeWithdraw, judgeBusy}
-use borrow.Author.Needs.{needs}
 use Rattle.worker.proofs.judge_withdraw.Statement.{statement}
 use Rattle.worker.proofs.judge_withdraw.Tie as tie
 
 table-fine-requires : tie.Need-table-fine-requires
-table-fine-requires c κs = search needs
+table-fine-requires c κs = tt
 
 returns : tie.Need-returns
 unfolding judgeWithdraw
 returns c = simp (sym (c .before .table-fine .ensures) ∙ not-true (c .before .table-fine .result) (c .if1 .taken))
 
 enum-told : tie.Need-enum-told
-enum-told c = search needs
+enum-told c = c .match .keys1
 
 enum-known-work : tie.Need-enum-known-work
-enum-known-work c = search needs
+enum-known-work c = c .match .keys2
 
 judge-busy-requires : tie.Need-judge-busy-requires
-judge-busy-requires c κs = search needs
+judge-busy-requires c κs = tt
 
 returns-2 : tie.Need-returns-2
 unfolding judgeWithdraw judgeBusy

@@ -1,88 +1,64 @@
-use mathlib.Core.Path.{_≡_}
+use mathlib.Core.Path.{sym, _∙_}
 use Rattle.protocol.specs.Step.{stepOf, settled}
-use Rattle.worker.proofs.WalkLaws.{walks-on}
-use Rattle.protocol.specs.declared.Work.the-variants.{Busy}
-use Rattle.protocol.specs.declared.Phase.the-variants.{Walk}
 use borrow.Author.Needs.{needs}
 use Rattle.worker.proofs.step.Statement.{statement}
 use Rattle.worker.proofs.step.Tie as tie
 
-enum-known-phase : tie.Need-enum-known-phase
-enum-known-phase c = search needs
+step-on-requires : tie.Need-step-on-requires
+step-on-requires c κs = tt
 
-enum-told : tie.Need-enum-told
-enum-told c = search needs
+enum-known-o : tie.Need-enum-known-o
+enum-known-o c = c .match .keys1
 
-any-step-requires : tie.Need-any-step-requires
-any-step-requires c κs = search needs
+enum-known-o-2 : tie.Need-enum-known-o-2
+enum-known-o-2 c = c .match .keys2
 
-enum-told-2 : tie.Need-enum-told-2
-enum-told-2 c = search needs
+leave-seat-requires : tie.Need-leave-seat-requires
+leave-seat-requires c κs = tt
 
-next-slot-requires : tie.Need-next-slot-requires
-next-slot-requires c κs = search needs
+idle-worker-requires : tie.Need-idle-worker-requires
+idle-worker-requires c κs = tt
 
-key-requires : tie.Need-key-requires
-key-requires c κs = search needs
+enum-known-o-3 : tie.Need-enum-known-o-3
+enum-known-o-3 c = c .match .keys3
 
 same-length : tie.Need-same-length
 same-length c = search needs
 
 returns : tie.Need-returns
 unfolding stepOf settled
-returns c = let x = c .before .before in
-    let n = x .before in
-    let f = n .before .before in
-    let g = f .before .before .before in
-    let a = g .before .before .before .args in
-    let k = f .enum-told2 .given .0 .0 in
-    let q = g .phase .given .0 in
-    let u : a .w .work ≡ Busy k = f .enum-told2 .given .1 in
-    let v : a .w .phase ≡ Walk (q .0) (q .1 .0) (q .1 .1 .0) (q .1 .1 .1 .0) (q .1 .1 .1 .1 .0) = g .phase .given .1 in
-    let e = walks-on (a .words .now) k (a .w .key) (q .0) (q .1 .0) (q .1 .1 .0) (q .1 .1 .1 .0) (q .1 .1 .1 .1 .0) (n .next-slot .result) (n .next-slot .ensures) (x .if1 .taken) in
-    (rw (u, v, e), rw (u, v, e, c .key .ensures), rw (u, v, e))
-
-any-step-requires-2 : tie.Need-any-step-requires-2
-any-step-requires-2 c κs = search needs
-
-any-step-requires-3 : tie.Need-any-step-requires-3
-any-step-requires-3 c κs = search needs
+returns c = let s = sym (c .before .before .before .before .before .step-on .ensures .0) ∙ c .before .o .given .1 in
+    (rw s, rw s, rw s (c .before .before .before .before .before .step-on .ensures .1))
 
 same-length-2 : tie.Need-same-length-2
 same-length-2 c = search needs
 
 returns-2 : tie.Need-returns-2
-returns-2 c = search needs
+unfolding stepOf settled
+returns-2 c = let s = sym (c .before .before .before .before .before .before .before .before .before .before .step-on .ensures .0) ∙ c .before .before .before .before .before .before .o2 .given .1 in
+    (rw s, rw s (c .idle-worker .ensures), rw s (rw (c .before .before .before .before .before .before .before .before .before .before .step-on .ensures .1) at (c .before .before .before .leave-seat .ensures)))
 
 same-length-3 : tie.Need-same-length-3
 same-length-3 c = search needs
 
 returns-3 : tie.Need-returns-3
-returns-3 c = search needs
-
-same-length-4 : tie.Need-same-length-4
-same-length-4 c = search needs
-
-returns-4 : tie.Need-returns-4
-returns-4 c = search needs
+unfolding stepOf settled
+returns-3 c = let s = sym (c .before .before .before .before .before .step-on .ensures .0) ∙ c .before .o3 .given .1 in
+    (rw s, rw s, rw s (c .before .before .before .before .before .step-on .ensures .1))
 
 pub step-spec : {M : Type 1} → statement M
 step-spec =
     tie.close
     (tie.spec
-    enum-known-phase
-    enum-told
-    any-step-requires
-    enum-told-2
-    next-slot-requires
-    key-requires
+    step-on-requires
+    enum-known-o
+    enum-known-o-2
+    leave-seat-requires
+    idle-worker-requires
+    enum-known-o-3
     same-length
     returns
-    any-step-requires-2
-    any-step-requires-3
     same-length-2
     returns-2
     same-length-3
-    returns-3
-    same-length-4
-    returns-4)
+    returns-3)

@@ -6,19 +6,19 @@ use Rattle.worker.proofs.withdraw.Statement.{statement}
 use Rattle.worker.proofs.withdraw.Tie as tie
 
 judge-withdraw-requires : tie.Need-judge-withdraw-requires
-judge-withdraw-requires c κs = search needs
+judge-withdraw-requires c κs = tt
 
 done-of-requires : tie.Need-done-of-requires
-done-of-requires c κs = search needs
+done-of-requires c κs = tt
 
 release-all-requires : tie.Need-release-all-requires
-release-all-requires c κs = search needs
+release-all-requires c κs = tt
 
 leave-seat-requires : tie.Need-leave-seat-requires
-leave-seat-requires c κs = search needs
+leave-seat-requires c κs = tt
 
-at-root-requires : tie.Need-at-root-requires
-at-root-requires c κs = search needs
+idle-worker-requires : tie.Need-idle-worker-requires
+idle-worker-requires c κs = tt
 
 same-length : tie.Need-same-length
 same-length c = search needs
@@ -26,7 +26,7 @@ same-length c = search needs
 returns : tie.Need-returns
 unfolding withdrawOf
 returns c = let q = eq-eqb _ _ (sym (c .before .before .before .before .before .before .before .before .before .before .before .judge-withdraw .ensures) ∙ c .before .before .before .before .before .before .before .before .before .before .if1 .taken) in
-    (simp q, simp (q, c .at-root .ensures), simp q (rw (c .before .before .before .before .before .before .before .release-all .ensures, c .before .before .before .before .before .before .before .before .before .done-of .ensures) at (c .before .before .before .leave-seat .ensures)))
+    (simp q, simp (q, c .idle-worker .ensures), simp q (rw (c .before .before .before .before .before .before .before .release-all .ensures, c .before .before .before .before .before .before .before .before .before .done-of .ensures) at (c .before .before .before .leave-seat .ensures)))
 
 same-length-2 : tie.Need-same-length-2
 same-length-2 c = search needs
@@ -44,7 +44,7 @@ withdraw-spec =
     done-of-requires
     release-all-requires
     leave-seat-requires
-    at-root-requires
+    idle-worker-requires
     same-length
     returns
     same-length-2

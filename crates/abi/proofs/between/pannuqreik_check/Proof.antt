@@ -1,5 +1,5 @@
 use mathlib.Core.Path.{ap, _∙_}
-use Rattle.abi.specs.Numbers.{soundNumber}
+use Rattle.calls.specs.Numbers.{soundNumber}
 use borrow.Author.Needs.{needs}
 use Rattle.abi.proofs.between.pannuqreik_check.Statement.{statement}
 use Rattle.abi.proofs.between.pannuqreik_check.Tie as tie

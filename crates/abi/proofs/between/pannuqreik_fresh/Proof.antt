@@ -1,5 +1,5 @@
 use mathlib.Core.Path.{ap, _∙_}
-use Rattle.abi.specs.Numbers.{number}
+use Rattle.calls.specs.Numbers.{number}
 use borrow.Author.Needs.{needs}
 use Rattle.abi.proofs.between.pannuqreik_fresh.Statement.{statement}
 use Rattle.abi.proofs.between.pannuqreik_fresh.Tie as tie

@@ -1,6 +1,6 @@
 use mathlib.Core.Path.{sym, ap, _∙_}
 use Rattle.moment.specs.Key.{packedSays}
-use Rattle.abi.specs.Numbers.{number}
+use Rattle.calls.specs.Numbers.{number}
 use Rattle.abi.specs.Values.{fieldsAt}
 use borrow.Author.Needs.{needs}
 use Rattle.abi.proofs.keys.pannuqreik_pack.Statement.{statement}

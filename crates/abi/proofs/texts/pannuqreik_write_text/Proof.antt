@@ -1,5 +1,5 @@
 use mathlib.Core.Path.{ap}
-use Rattle.abi.specs.Numbers.{number}
+use Rattle.calls.specs.Numbers.{number}
 use borrow.Author.Needs.{needs}
 use Rattle.abi.proofs.texts.pannuqreik_write_text.Statement.{statement}
 use Rattle.abi.proofs.texts.pannuqreik_write_text.Tie as tie

@@ -1,14 +1,13 @@
 use Rattle.protocol.specs.Plan.{plan, actionAt}
 use Rattle.protocol.proofs.PlanLaws.{past, beyond}
-use borrow.Author.Needs.{needs}
 use Rattle.plan.proofs.cases.new_at.Statement.{statement}
 use Rattle.plan.proofs.cases.new_at.Tie as tie
 
 write-edge-requires : tie.Need-write-edge-requires
-write-edge-requires c κs = search needs
+write-edge-requires c κs = tt
 
 read-state-requires : tie.Need-read-state-requires
-read-state-requires c κs = search needs
+read-state-requires c κs = tt
 
 returns : tie.Need-returns
 unfolding actionAt plan

@@ -1,17 +1,16 @@
 use Rattle.protocol.specs.Plan.{plan, actionAt}
 use Rattle.protocol.proofs.PlanLaws.{past, beyond}
-use borrow.Author.Needs.{needs}
 use Rattle.plan.proofs.cases.one_at.Statement.{statement}
 use Rattle.plan.proofs.cases.one_at.Tie as tie
 
 read-edge-requires : tie.Need-read-edge-requires
-read-edge-requires c κs = search needs
+read-edge-requires c κs = tt
 
 write-edge-requires : tie.Need-write-edge-requires
-write-edge-requires c κs = search needs
+write-edge-requires c κs = tt
 
 write-state-requires : tie.Need-write-state-requires
-write-state-requires c κs = search needs
+write-state-requires c κs = tt
 
 returns : tie.Need-returns
 unfolding actionAt plan

@@ -1,11 +1,10 @@
 use Rattle.protocol.specs.Plan.{plan, actionAt}
 use Rattle.protocol.proofs.PlanLaws.{past, beyond}
-use borrow.Author.Needs.{needs}
 use Rattle.plan.proofs.cases.two_at.Statement.{statement}
 use Rattle.plan.proofs.cases.two_at.Tie as tie
 
 write-state-requires : tie.Need-write-state-requires
-write-state-requires c κs = search needs
+write-state-requires c κs = tt
 
 returns : tie.Need-returns
 unfolding actionAt plan

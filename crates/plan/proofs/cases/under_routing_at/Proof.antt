@@ -1,23 +1,22 @@
 use Rattle.protocol.specs.Plan.{plan, actionAt}
 use Rattle.protocol.proofs.PlanLaws.{past, beyond}
-use borrow.Author.Needs.{needs}
 use Rattle.plan.proofs.cases.under_routing_at.Statement.{statement}
 use Rattle.plan.proofs.cases.under_routing_at.Tie as tie
 
 write-edge-requires : tie.Need-write-edge-requires
-write-edge-requires c κs = search needs
+write-edge-requires c κs = tt
 
 write-state-requires : tie.Need-write-state-requires
-write-state-requires c κs = search needs
+write-state-requires c κs = tt
 
 read-edge-requires : tie.Need-read-edge-requires
-read-edge-requires c κs = search needs
+read-edge-requires c κs = tt
 
 write-edge-requires-2 : tie.Need-write-edge-requires-2
-write-edge-requires-2 c κs = search needs
+write-edge-requires-2 c κs = tt
 
 write-state-requires-2 : tie.Need-write-state-requires-2
-write-state-requires-2 c κs = search needs
+write-state-requires-2 c κs = tt
 
 returns : tie.Need-returns
 unfolding actionAt plan

@@ -1,14 +1,15 @@
-use Rattle.protocol.specs.Record.{roles}
-use borrow.Author.Needs.{needs}
+use Rattle.plan.proofs.RoleLaws.{under-law}
 use Rattle.plan.proofs.roles.under_routing_roles.Statement.{statement}
 use Rattle.plan.proofs.roles.under_routing_roles.Tie as tie
 
-is-remove-requires : tie.Need-is-remove-requires
-is-remove-requires c κs = search needs
+walk-roles-requires : tie.Need-walk-roles-requires
+walk-roles-requires c κs = tt
+
+walk-roles-requires-2 : tie.Need-walk-roles-requires-2
+walk-roles-requires-2 c κs = tt
 
 returns : tie.Need-returns
-unfolding roles
-returns c = cc
+returns c = under-law _ _ _ _ _ _ _ _ _ _ (c .before .walk-roles .ensures) (c .walk-roles2 .ensures)
 
 pub under-routing-roles-spec : {M : Type 1} → statement M
-under-routing-roles-spec = tie.close (tie.spec is-remove-requires returns)
+under-routing-roles-spec = tie.close (tie.spec walk-roles-requires walk-roles-requires-2 returns)

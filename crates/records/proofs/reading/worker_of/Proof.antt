@@ -11,7 +11,7 @@ phase-at-requires c κs = search needs
 
 returns : tie.Need-returns
 unfolding workerAt
-returns c = cc
+returns c = rw (c .before .before .before .before .work-at .ensures, c .phase-at .ensures)
 
 pub worker-of-spec : {M : Type 1} → statement M
 worker-of-spec = tie.close (tie.spec work-at-requires phase-at-requires returns)

@@ -5,13 +5,16 @@ use Rattle.script.proofs.words.parse_fields.Statement.{statement}
 use Rattle.script.proofs.words.parse_fields.Tie as tie
 
 abbrev Inv-loop : tie.InvT-loop
-Inv-loop s w work key phase from to v₀ at₀ i₀ v at i = (i ≤ 8) × (at ≤ 12)
+Inv-loop s w record₀ from to at₀ i₀ «record» at i = (i ≤ 8) × (at ≤ 12)
 
 abbrev μ-loop : tie.MeasureT-loop
-μ-loop s w work key phase from to v₀ at₀ i₀ v at i = 8 - i
+μ-loop s w record₀ from to at₀ i₀ «record» at i = 8 - i
 
 loop-holds : tie.Need-loop-holds Inv-loop μ-loop
 loop-holds c = search needs
+
+element-copy-out-has : tie.Need-element-copy-out-has Inv-loop μ-loop
+element-copy-out-has c = search needs
 
 has-requires : tie.Need-has-requires Inv-loop μ-loop
 has-requires c κs = search needs
@@ -43,11 +46,14 @@ returns-2 c = search needs
 enum-known-said : tie.Need-enum-known-said Inv-loop μ-loop
 enum-known-said c = search needs
 
-mul-v : tie.Need-mul-v Inv-loop μ-loop
-mul-v c = search needs
+add-record : tie.Need-add-record Inv-loop μ-loop
+add-record c = search needs
 
-array-write-v : tie.Need-array-write-v Inv-loop μ-loop
-array-write-v c = search needs
+mul-record : tie.Need-mul-record Inv-loop μ-loop
+mul-record c = search needs
+
+element-write-record : tie.Need-element-write-record Inv-loop μ-loop
+element-write-record c = search needs
 
 add-at : tie.Need-add-at Inv-loop μ-loop
 add-at c = search needs
@@ -64,33 +70,6 @@ loop-again c = ⊎-elim (λ w. search needs) (λ w. search needs) (c .if1 .came)
 returns-3 : tie.Need-returns-3 Inv-loop μ-loop
 returns-3 c = search needs
 
-array-read-t30 : tie.Need-array-read-t30 Inv-loop μ-loop
-array-read-t30 c = search needs
-
-array-read-t33 : tie.Need-array-read-t33 Inv-loop μ-loop
-array-read-t33 c = search needs
-
-array-read-t36 : tie.Need-array-read-t36 Inv-loop μ-loop
-array-read-t36 c = search needs
-
-array-read-t39 : tie.Need-array-read-t39 Inv-loop μ-loop
-array-read-t39 c = search needs
-
-array-read-t42 : tie.Need-array-read-t42 Inv-loop μ-loop
-array-read-t42 c = search needs
-
-array-read-t45 : tie.Need-array-read-t45 Inv-loop μ-loop
-array-read-t45 c = search needs
-
-array-read-t48 : tie.Need-array-read-t48 Inv-loop μ-loop
-array-read-t48 c = search needs
-
-array-read-t51 : tie.Need-array-read-t51 Inv-loop μ-loop
-array-read-t51 c = search needs
-
-returns-4 : tie.Need-returns-4 Inv-loop μ-loop
-returns-4 c = search needs
-
 pub parse-fields-spec : {M : Type 1} → statement M
 parse-fields-spec =
     tie.close
@@ -98,6 +77,7 @@ parse-fields-spec =
     Inv-loop
     μ-loop
     loop-holds
+    element-copy-out-has
     has-requires
     returns
     mul-field-named
@@ -108,19 +88,11 @@ parse-fields-spec =
     enum-told
     returns-2
     enum-known-said
-    mul-v
-    array-write-v
+    add-record
+    mul-record
+    element-write-record
     add-at
     add-i
     loop-less
     loop-again
-    returns-3
-    array-read-t30
-    array-read-t33
-    array-read-t36
-    array-read-t39
-    array-read-t42
-    array-read-t45
-    array-read-t48
-    array-read-t51
-    returns-4)
+    returns-3)

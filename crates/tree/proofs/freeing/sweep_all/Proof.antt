@@ -1,9 +1,10 @@
-use Rattle.tree.proofs.Recursions.{swept-none, swept-more}
+use mathlib.Core.Logic.{inl, inr, ⊎-elim}
+use Rattle.tree.proofs.Recursions.{swept-none, swept-step, swept-more}
 use Rattle.tree.specs.Answers.{swept}
-use lib.ListN.{length}
 use native.Mathlib.Omega.{arith}
-use Prim.Native.Nat.{_-_, _/_, _≤_}
+use lib.ListN.{length}
 use mathlib.Core.Path.{_≡_, refl, _∙_}
+use Prim.Native.Nat.{_-_, _/_, _≤_}
 use borrow.Author.Needs.{needs}
 use Rattle.tree.proofs.freeing.sweep_all.Statement.{statement}
 use Rattle.tree.proofs.freeing.sweep_all.Tie as tie
@@ -17,8 +18,11 @@ abbrev μ-loop : tie.MeasureT-loop
 loop-holds : tie.Need-loop-holds Inv-loop μ-loop
 loop-holds c = (search needs, refl, swept-none _)
 
-sweep-slot-requires : tie.Need-sweep-slot-requires Inv-loop μ-loop
-sweep-slot-requires c κs = search needs
+state-requires : tie.Need-state-requires Inv-loop μ-loop
+state-requires c κs = tt
+
+zero-slot-requires : tie.Need-zero-slot-requires Inv-loop μ-loop
+zero-slot-requires c κs = tt
 
 add-i : tie.Need-add-i Inv-loop μ-loop
 add-i c = search needs
@@ -27,9 +31,13 @@ loop-less : tie.Need-loop-less Inv-loop μ-loop
 loop-less c = search needs
 
 loop-again : tie.Need-loop-again Inv-loop μ-loop
-loop-again c = let f = c .before .before in
-    let l = f .before .before .before .loop in
-    (search needs, f .sweep-slot .kept .0 ∙ l .inv .1, swept-more _ _ _ _ (l .inv .2) (f .sweep-slot .ensures))
+loop-again c = let s = c .before in
+    let l = s .before .before .before .loop in
+    let e = swept-step _ _ (s .state .result) _ (s .state .ensures) (⊎-elim
+    (λ w. inl (w .0 .taken, w .5 ∙ w .2 .ensures))
+    (λ w. inr (w .0 .left, w .1))
+    (c .if1 .came)) in
+    (search needs, e .1 ∙ l .inv .1, swept-more _ _ _ _ (l .inv .2) (e .0))
 
 same-length : tie.Need-same-length Inv-loop μ-loop
 same-length c = c .before .loop .inv .1
@@ -46,7 +54,8 @@ sweep-all-spec =
     Inv-loop
     μ-loop
     loop-holds
-    sweep-slot-requires
+    state-requires
+    zero-slot-requires
     add-i
     loop-less
     loop-again

@@ -1,0 +1,4 @@
+pub mod Calls
+pub mod WalkCalls
+pub mod Answers
+pub mod OneOutcome

@@ -1,0 +1,28 @@
+use mathlib.Core.Path.{_∙_}
+use Rattle.protocol.specs.Record.{roles}
+use Rattle.plan.proofs.RoleLaws.{insert-other}
+use Rattle.plan.proofs.roles.insert_roles.Statement.{statement}
+use Rattle.plan.proofs.roles.insert_roles.Tie as tie
+
+enum-known-phase : tie.Need-enum-known-phase
+enum-known-phase c = c .match .keys1
+
+enum-known-phase-2 : tie.Need-enum-known-phase-2
+enum-known-phase-2 c = c .match .keys2
+
+lookup-roles-requires : tie.Need-lookup-roles-requires
+lookup-roles-requires c κs = tt
+
+returns : tie.Need-returns
+unfolding roles
+returns c = rw (c .before .phase .given .1)
+
+returns-2 : tie.Need-returns-2
+unfolding roles
+returns-2 c = rw (c .before .phase2 .given .1)
+
+returns-3 : tie.Need-returns-3
+returns-3 c = c .lookup-roles .ensures ∙ insert-other _ (c .before .before .args .phase) (c .before .match .keys3)
+
+pub insert-roles-spec : {M : Type 1} → statement M
+insert-roles-spec = tie.close (tie.spec enum-known-phase enum-known-phase-2 lookup-roles-requires returns returns-2 returns-3)

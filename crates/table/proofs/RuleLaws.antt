@@ -1,7 +1,7 @@
 -- The bit rules of a word, as the code judges them.
 -- Assumes nothing.
 use mathlib.Core.Path.{_≡_, refl, sym}
-use mathlib.Core.Bool.{Bool, true, false, cond, not, _&&_, and-eq-true-iff}
+use mathlib.Core.Bool.{Bool, true, false, cond, not, _&&_, _||_, and-eq-true-iff}
 use Prim.Native.Nat.{ℕ, zero, suc, _/_, _%_, _^_, _<_}
 use native.Mathlib.Omega.{arith}
 use native.Mathlib.Nat.{not-suc-le-zero}
@@ -19,6 +19,24 @@ no-locks x e =
     let b : get 30 6 x ≡ 0 = omega arith in
     let d : get 24 6 x ≡ 0 = omega arith in
     rw (a, b, d)
+
+-- where all 42 bits below the links are zero, so is what they hold
+pub no-rest : (x : ℕ) (root : Bool) → x % 4398046511104 ≡ 0
+    → true ≡ (lockFine (get 36 6 x) && lockFine (get 30 6 x) && lockFine (get 24 6 x) && (root || eqb (get 19 5 x) 0) && eqb (get 0 19 x) 0)
+unfolding lockFine
+no-rest x true e =
+    let a : get 36 6 x ≡ 0 = omega arith in
+    let b : get 30 6 x ≡ 0 = omega arith in
+    let d : get 24 6 x ≡ 0 = omega arith in
+    let z : get 0 19 x ≡ 0 = omega arith in
+    rw (a, b, d, z)
+no-rest x false e =
+    let a : get 36 6 x ≡ 0 = omega arith in
+    let b : get 30 6 x ≡ 0 = omega arith in
+    let d : get 24 6 x ≡ 0 = omega arith in
+    let y : get 19 5 x ≡ 0 = omega arith in
+    let z : get 0 19 x ≡ 0 = omega arith in
+    rw (a, b, d, y, z)
 
 -- a table of tests, one bit for each number below n
 pub alike : ℕ → (ℕ → Bool) → (ℕ → Bool) → Bool

@@ -23,12 +23,15 @@ fn locks_fine(x: u64) -> bool
     state & left & right
 }
 
-// The second word of a slot, the root or another, in a table of n slots.
+// The second word of a slot, the root or another, in a table of n slots. Nearly always all below the links is zero.
 pub fn word_fine(x: u64, n: u64, root: bool) -> bool
     ensures { λ r. ⌜ r ≡ wordFine x n root ⌝ }
 {
     if !((x / 4503599627370496 % 1024 < n) & (x / 4398046511104 % 1024 < n)) {
         return false;
+    }
+    if x % 4398046511104 == 0 {
+        return true;
     }
     locks_fine(x) & (root | (x / 524288 % 32 == 0)) & (x % 524288 == 0)
 }

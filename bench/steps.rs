@@ -50,38 +50,42 @@ impl Works for Library {
     }
 }
 
-#[derive(Clone)]
-struct PlainTable {
-    words: Vec<u64>,
-    record: Plain,
+/// A record that code written by hand keeps in place.
+trait ByHand {
+    fn begin(&mut self, words: &mut [u64], work: u64, key: u64);
+    /// One step: does the work go on?
+    fn goes(&mut self, words: &mut [u64]) -> bool;
 }
 
-impl Works for PlainTable {
-    fn work(&mut self, work: u64, key: u64) -> u64 {
-        self.record.start(&mut self.words, work, key);
-        let mut steps = 1;
-        while self.record.step(&mut self.words) == plain::GOING {
-            steps += 1;
-        }
-        steps
+impl ByHand for Plain {
+    fn begin(&mut self, words: &mut [u64], work: u64, key: u64) {
+        self.start(words, work, key);
     }
-
-    fn words(&self) -> &[u64] {
-        &self.words
+    fn goes(&mut self, words: &mut [u64]) -> bool {
+        self.step(words) == plain::GOING
     }
 }
 
-#[derive(Clone)]
-struct JudgedTable {
-    words: Vec<u64>,
-    record: Judged,
+impl ByHand for Judged {
+    fn begin(&mut self, words: &mut [u64], work: u64, key: u64) {
+        self.start(words, work, key);
+    }
+    fn goes(&mut self, words: &mut [u64]) -> bool {
+        self.step(words) == judged::GOING
+    }
 }
 
-impl Works for JudgedTable {
+#[derive(Clone)]
+struct Table<R> {
+    words: Vec<u64>,
+    record: R,
+}
+
+impl<R: ByHand> Works for Table<R> {
     fn work(&mut self, work: u64, key: u64) -> u64 {
-        self.record.start(&mut self.words, work, key);
+        self.record.begin(&mut self.words, work, key);
         let mut steps = 1;
-        while self.record.step(&mut self.words) == judged::GOING {
+        while self.record.goes(&mut self.words) {
             steps += 1;
         }
         steps
@@ -211,8 +215,8 @@ fn times() {
     );
     for slots in [64, 256, 1024] {
         let (l, keys) = filled(slots);
-        let p = PlainTable { words: l.words.clone(), record: IDLE };
-        let j = JudgedTable { words: l.words.clone(), record: judged::IDLE };
+        let p = Table { words: l.words.clone(), record: IDLE };
+        let j = Table { words: l.words.clone(), record: judged::IDLE };
         let t = Tree(keys.iter().copied().collect());
         for change in [false, true] {
             let name = if change { "remove or insert" } else { "lookup" };
@@ -252,8 +256,8 @@ fn times() {
 /// The same work n times, for valgrind; prints how many units one time is.
 fn count(who: &str, what: &str, slots: usize, n: u64) {
     let (l, keys) = filled(slots);
-    let p = PlainTable { words: l.words.clone(), record: IDLE };
-    let j = JudgedTable { words: l.words.clone(), record: judged::IDLE };
+    let p = Table { words: l.words.clone(), record: IDLE };
+    let j = Table { words: l.words.clone(), record: judged::IDLE };
     let t = Tree(keys.iter().copied().collect());
     let (change, mut words, mut out) = (what == "change", l.words.clone(), vec![0; 2 * slots]);
     let mut one = (1, 1);

@@ -1,10 +1,12 @@
-// What a step does by the plan, in any phase: the rules, and the next action.
+// What a step does in any phase: the rules, and the next action. The phase after it is told, not made: a step of the plan that
+// goes on only counts one more action.
 ghost use mathlib.Core.Path.{_≡_};
-ghost use Prim.Native.Nat.{ℕ, _<_};
 ghost use Rattle.protocol.specs.Plan.{doneOf};
 ghost use Rattle.protocol.specs.Stores.{lowestFit};
-ghost use Rattle.protocol.specs.Step.{readsFine, busyStep, stepDid};
-ghost use Rattle.acting.specs.Acts.{takes, storeOn, actOn, planStep, Rests};
+ghost use Rattle.protocol.specs.Step.{readsFine};
+ghost use Rattle.acting.specs.Acts.{takes, actOn};
+ghost use Rattle.acting.specs.Moves.{movedOf, thenOf, leaves, settle, planMove, busyMove, stepMove};
+use locks::Acted;
 use protocol::Action;
 use protocol::Answer;
 use protocol::Kind;
@@ -15,65 +17,81 @@ use table::DATA;
 
 mod walking;
 
+// What a step comes to: the phase has one more action done, or is another; the work is over, with an answer; or the step is
+// refused, and all stays.
+pub enum Moved {
+    On,
+    To(Phase),
+    Over(Answer),
+    Stays(u64),
+}
+
 // A new frame's slot: the lowest that is free gets key and state data, and is linked.
-fn take(words: &mut [u64], key: u64, next: Phase, prev: u64, side: bool) -> Outcome
-    ensures { λ r. ⌜ (r ≡ takes (now (words .entry)) key next prev side (lowestFit (now (words .entry))) .said) × (now (words .exit) ≡ takes (now (words .entry)) key next prev side (lowestFit (now (words .entry))) .words) ⌝ }
+fn take(words: &mut [u64], key: u64, prev: u64, side: bool) -> Acted
+    ensures { λ r. ⌜ (r ≡ takes (now (words .entry)) key prev side (lowestFit (now (words .entry))) .said) × (now (words .exit) ≡ takes (now (words .entry)) key prev side (lowestFit (now (words .entry))) .words) ⌝ }
 {
     let f = table::free::lowest_free(words);
     if f == 0 {
-        return Outcome::Ends(Answer::Full);
+        return Acted::Finished(Answer::Full);
     }
     if !table::zero_pair(words, f) {
-        return Outcome::Refuses(6);
+        return Acted::Stopped(6);
     }
     table::set_key(words, f, key);
     table::set_state(words, f, DATA);
     table::set_link(words, prev, side, f);
-    Outcome::Goes(next)
+    Acted::Done
 }
 
-// A store, or the end.
-fn store_on(words: &mut [u64], key: u64, next: Phase, a: Action) -> Outcome
-    ensures { λ r. ⌜ (r ≡ storeOn (now (words .entry)) key next a .said) × (now (words .exit) ≡ storeOn (now (words .entry)) key next a .words) ⌝ }
+// An action by itself: a lock, a store, or the end.
+fn act_on(words: &mut [u64], key: u64, a: Action) -> Acted
+    ensures { λ r. ⌜ (r ≡ actOn (now (words .entry)) key a .said) × (now (words .exit) ≡ actOn (now (words .entry)) key a .words) ⌝ }
 {
     match a {
-        Action::Mark(slot, to) => {
-            table::set_state(words, slot, to);
-            Outcome::Goes(next)
-        }
-        Action::Link(slot, side, to) => {
-            table::set_link(words, slot, side, to);
-            Outcome::Goes(next)
-        }
-        Action::Take(prev, side) => take(words, key, next, prev, side),
-        Action::End => Outcome::Ends(Answer::Yes),
-        _ => Outcome::Refuses(6),
-    }
-}
-
-// An action. A work that ends gives up its locks.
-fn act_on(words: &mut [u64], key: u64, phase: Phase, done: u64, next: Phase, a: Action) -> Outcome
-    ensures { λ r. ⌜ (r ≡ actOn (now (words .entry)) key phase done next a .said) × (now (words .exit) ≡ actOn (now (words .entry)) key phase done next a .words) ⌝ }
-{
-    match a {
-        Action::Lock(slot, which, write, state, links) => locks::lock_step(
+        Action::Lock(slot, which, write, state, links) => locks::take_lock(
             words,
-            phase,
-            done,
-            next,
             slot,
             which,
             write,
             state,
             links,
         ),
-        _ => {
-            let o = store_on(words, key, next, a);
-            match o {
-                Outcome::Ends(_) => locks::give_up(words, phase, done, o),
-                _ => o,
-            }
+        Action::Mark(slot, to) => {
+            table::set_state(words, slot, to);
+            Acted::Done
         }
+        Action::Link(slot, side, to) => {
+            table::set_link(words, slot, side, to);
+            Acted::Done
+        }
+        Action::Take(prev, side) => take(words, key, prev, side),
+        Action::End => Acted::Finished(Answer::Yes),
+        _ => Acted::Stopped(6),
+    }
+}
+
+// A work that is over or begins again gives up its locks.
+fn give_up(words: &mut [u64], phase: Phase, acted: Acted) -> Moved
+    ensures { λ r. ⌜ (r ≡ leaves (now (words .entry)) phase (doneOf phase) (thenOf acted) .said) × (now (words .exit) ≡ leaves (now (words .entry)) phase (doneOf phase) (thenOf acted) .words) ⌝ }
+{
+    let done = plan::done_of(phase);
+    if !locks::give_up(words, phase, done) {
+        return Moved::Stays(6);
+    }
+    match acted {
+        Acted::Finished(answer) => Moved::Over(answer),
+        _ => Moved::To(plan::at_root()),
+    }
+}
+
+// What becomes of the phase: one more action is done, or the locks are given up, or the step is refused.
+fn settle_on(words: &mut [u64], phase: Phase, acted: Acted) -> Moved
+    ensures { λ r. ⌜ (r ≡ settle phase acted (now (words .entry)) .said) × (now (words .exit) ≡ settle phase acted (now (words .entry)) .words) ⌝ }
+{
+    match acted {
+        Acted::Done => Moved::On,
+        Acted::Stopped(n) => Moved::Stays(n),
+        _ => give_up(words, phase, acted),
     }
 }
 
@@ -93,42 +111,35 @@ fn reads_fine(words: &[u64], a: Action) -> bool
     }
 }
 
-// The next action of the plan.
-fn plan_step(words: &mut [u64], key: u64, phase: Phase) -> Outcome
-    requires { ⌜ doneOf phase < 9 ⌝ }
-    ensures { λ r. ⌜ (r ≡ planStep (now (words .entry)) key phase .said) × (now (words .exit) ≡ planStep (now (words .entry)) key phase .words) ⌝ }
+// Rule 6 and the action that is due.
+fn plan_step(words: &mut [u64], kind: Kind, key: u64, phase: Phase) -> Moved
+    ensures { λ r. ⌜ (r ≡ planMove (now (words .entry)) kind key phase .said) × (now (words .exit) ≡ planMove (now (words .entry)) kind key phase .words) ⌝ }
 {
-    let done = plan::done_of(phase);
-    let a = plan::action_at(phase, done);
-    if !reads_fine(words, a) {
-        return Outcome::Refuses(6);
+    if !(moment::legal(key) & (table::busy(words) != 0)) {
+        return Moved::Stays(6);
     }
-    let next = plan::with_done(phase, done + 1);
-    act_on(words, key, phase, done, next, a)
+    let a = plan::due(table::slots(words), kind, phase);
+    if !reads_fine(words, a) {
+        return Moved::Stays(6);
+    }
+    let acted = act_on(words, key, a);
+    settle_on(words, phase, acted)
 }
 
-// Rule 6, then the leaf's look at previous, or the next action of the plan: of a phase that does not walk.
-fn rest_step(words: &mut [u64], kind: Kind, key: u64, phase: Phase) -> Outcome
-    ensures { λ r. ⌜ (Rests phase → (r ≡ busyStep (now (words .entry)) kind key phase .said) × (now (words .exit) ≡ busyStep (now (words .entry)) kind key phase .words)) ⌝ }
+// The walk and the leaf's look, which make the phase anew.
+fn move_of(o: Outcome) -> Moved
+    ensures { λ r. ⌜ r ≡ movedOf o ⌝ }
 {
-    if !plan::record_fine(words, kind, key, phase) {
-        return Outcome::Refuses(6);
-    }
-    match phase {
-        Phase::Leaf {
-            this,
-            prev,
-            side,
-            before,
-            up,
-        } => walking::look_at(words, this, prev, side, before, up),
-        _ => plan_step(words, key, phase),
+    match o {
+        Outcome::Goes(p) => Moved::To(p),
+        Outcome::Ends(a) => Moved::Over(a),
+        Outcome::Refuses(n) => Moved::Stays(n),
     }
 }
 
 // Rule 6 and what the phase does. A walk, which most steps are, asks nothing of the plan.
-fn busy_step(words: &mut [u64], kind: Kind, key: u64, phase: Phase) -> Outcome
-    ensures { λ r. ⌜ (r ≡ busyStep (now (words .entry)) kind key phase .said) × (now (words .exit) ≡ busyStep (now (words .entry)) kind key phase .words) ⌝ }
+fn busy_step(words: &mut [u64], kind: Kind, key: u64, phase: Phase) -> Moved
+    ensures { λ r. ⌜ (r ≡ busyMove (now (words .entry)) kind key phase .said) × (now (words .exit) ≡ busyMove (now (words .entry)) kind key phase .words) ⌝ }
 {
     match phase {
         Phase::Walk {
@@ -137,20 +148,27 @@ fn busy_step(words: &mut [u64], kind: Kind, key: u64, phase: Phase) -> Outcome
             before,
             side,
             up,
-        } => walking::visit_at(words, kind, key, at, prev, before, side, up),
-        _ => rest_step(words, kind, key, phase),
+        } => move_of(walking::visit_at(words, kind, key, at, prev, before, side, up)),
+        Phase::Leaf {
+            this,
+            prev,
+            side,
+            before,
+            up,
+        } => move_of(walking::look_at(words, kind, key, this, prev, side, before, up)),
+        _ => plan_step(words, kind, key, phase),
     }
 }
 
 // Rules 1 and 2 before.
-pub fn step_on(words: &mut [u64], work: Work, key: u64, phase: Phase) -> Outcome
-    ensures { λ r. ⌜ (r ≡ stepDid (now (words .entry)) work key phase .said) × (now (words .exit) ≡ stepDid (now (words .entry)) work key phase .words) ⌝ }
+pub fn step_on(words: &mut [u64], work: Work, key: u64, phase: Phase) -> Moved
+    ensures { λ r. ⌜ (r ≡ stepMove (now (words .entry)) work key phase .said) × (now (words .exit) ≡ stepMove (now (words .entry)) work key phase .words) ⌝ }
 {
     if !table::table_fine(words) {
-        return Outcome::Refuses(1);
+        return Moved::Stays(1);
     }
     match work {
-        Work::Idle => Outcome::Refuses(2),
+        Work::Idle => Moved::Stays(2),
         Work::Busy(kind) => busy_step(words, kind, key, phase),
     }
 }

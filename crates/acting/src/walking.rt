@@ -1,11 +1,11 @@
-// The walk, one slot a step, and the leaf's look at previous: a walk's record's rules and the slot's pair are judged before.
+// The walk, one slot a step, and the leaf's look at previous: the record's rules and the slot's pair are judged before.
 ghost use mathlib.Core.Path.{_≡_};
 ghost use mathlib.Core.Bool.{true, cond, _&&_};
 ghost use Rattle.table.specs.Rules.{pairFine};
 ghost use Rattle.protocol.specs.Record.{recordFine};
 ghost use Rattle.protocol.specs.Walk.{removing, found, onward, visit, under, look};
 ghost use Rattle.protocol.specs.declared.Kind.the-variants.{Lookup};
-ghost use Rattle.protocol.specs.declared.Phase.the-variants.{Walk};
+ghost use Rattle.protocol.specs.declared.Phase.the-variants.{Walk, Leaf};
 ghost use Rattle.protocol.specs.declared.Outcome.the-variants.{Refuses};
 use protocol::Answer;
 use protocol::Kind;
@@ -167,9 +167,28 @@ fn under_at(s: u64, other: u64, this: u64, prev: u64, side: bool, before: u64, u
     })
 }
 
-pub fn look_at(words: &[u64], this: u64, prev: u64, side: bool, before: u64, up: bool) -> Outcome
-    ensures { λ o. ⌜ o ≡ cond (pairFine (now (words .entry)) prev) (look (now (words .entry)) this prev side before up) (Refuses 6) ⌝ }
+pub fn look_at(
+    words: &[u64],
+    kind: Kind,
+    key: u64,
+    this: u64,
+    prev: u64,
+    side: bool,
+    before: u64,
+    up: bool,
+) -> Outcome
+    ensures { λ o. ⌜ o ≡ cond (recordFine (now (words .entry)) kind key (Leaf this prev side before up) && pairFine (now (words .entry)) prev) (look (now (words .entry)) this prev side before up) (Refuses 6) ⌝ }
 {
+    let leaf = Phase::Leaf {
+        this,
+        prev,
+        side,
+        before,
+        up,
+    };
+    if !plan::record_fine(words, kind, key, leaf) {
+        return Outcome::Refuses(6);
+    }
     if !table::pair_fine(words, prev) {
         return Outcome::Refuses(6);
     }

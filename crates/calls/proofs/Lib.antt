@@ -1,4 +1,5 @@
 pub mod Calls
 pub mod WalkCalls
+pub mod MovedCalls
 pub mod Answers
 pub mod OneOutcome

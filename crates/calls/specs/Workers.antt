@@ -6,8 +6,11 @@ use mathlib.Core.List.{List}
 use Prim.Native.Nat.{ℕ}
 use Rattle.moment.specs.Said.{Said}
 use Rattle.table.specs.Rules.{tableFine}
-use Rattle.protocol.specs.Step.{Call}
-use Rattle.records.specs.Records.{wordsOf, isRecord}
+use Rattle.protocol.specs.Step.{Call, idleWorker}
+use Rattle.protocol.specs.declared.Work.{Work}
+use Rattle.records.specs.Records.{wordsOf, isRecord, putRecord, countOn}
+use Rattle.acting.specs.declared.Moved.{Moved}
+use Rattle.acting.specs.declared.Moved.the-variants.{On, To, Over, Stays}
 
 -- the number where the words are no record
 unfoldable pub unreadNumber : List ℕ → ℕ
@@ -27,3 +30,11 @@ callWords ws s c = cond (isRecord s) (c .words) ws
 abbrev pub Comes : {A : Type 0} → (Said A → ℕ) → List ℕ → List ℕ → Call A → ℕ → List ℕ → List ℕ → Type 0
 Comes f ws s c number record-words table-words =
     (number ≡ callNumber f ws s c) × (record-words ≡ callRecord s c) × (table-words ≡ callWords ws s c)
+
+-- A step, put into the record's words as it is told: one count, another record, or nothing. `proofs/MovedCalls.antt` has that
+-- these are the words of the record after the step
+unfoldable pub putMoved : List ℕ → Work → ℕ → Moved → List ℕ
+putMoved s work key On = countOn s
+putMoved s work key (To p) = putRecord s (record { work = work; key = key; phase = p })
+putMoved s work key (Over a) = putRecord s idleWorker
+putMoved s work key (Stays n) = s

@@ -2,16 +2,18 @@
 // take any words, and say by one number what they came to.
 ghost use mathlib.Core.Path.{_≡_};
 ghost use Rattle.table.specs.Rules.{replySays};
-ghost use Rattle.protocol.specs.Says.{answerSays};
 ghost use Rattle.protocol.specs.Step.{stepOf};
 ghost use Rattle.protocol.specs.Calls.{startOf, withdrawOf};
 ghost use Rattle.calls.specs.Numbers.{verdictNumber, number};
 ghost use Rattle.records.specs.Records.{workerOf, putRecord};
-ghost use Rattle.calls.specs.Workers.{unreadNumber, Comes};
+ghost use Rattle.worker.specs.Moving.{moveSays};
+ghost use Rattle.calls.specs.Workers.{unreadNumber, Comes, putMoved};
+use acting::Moved;
 use numbers::FINE;
 use protocol::Kind;
 use protocol::Replied;
-use protocol::Stepped;
+use protocol::Work;
+use protocol::Worker;
 use records::Lent;
 
 pub mod numbers;
@@ -33,14 +35,26 @@ fn put_reply(lent: &mut [u64], r: Replied) -> u64
     numbers::of_reply(reply)
 }
 
-// The same of a step.
-fn put_answer(lent: &mut [u64], s: Stepped) -> u64
-    ensures { λ n. ⌜ (n ≡ verdictNumber (answerSays (s .answer))) × (now (lent .exit) ≡ putRecord (now (lent .entry)) (s .worker)) ⌝ }
+// The record is moved on in its words as the step tells; the number of its answer. A step of the plan that goes on, and one that
+// is refused, touch no other word.
+fn put_moved(lent: &mut [u64], work: Work, key: u64, m: Moved) -> u64
+    ensures { λ n. ⌜ (n ≡ verdictNumber (moveSays m)) × (now (lent .exit) ≡ putMoved (now (lent .entry)) work key m) ⌝ }
 {
-    let moved = s.worker;
-    let answer = s.answer;
-    records::put(lent, moved);
-    numbers::of_answer(answer)
+    match m {
+        Moved::On => {
+            records::count_on(lent);
+            FINE
+        }
+        Moved::To(phase) => {
+            records::put(lent, Worker { work, key, phase });
+            FINE
+        }
+        Moved::Over(answer) => {
+            records::put(lent, worker::idle_worker());
+            numbers::of_answer(answer)
+        }
+        Moved::Stays(n) => n,
+    }
 }
 
 // Begins a work of that kind on a key; or 1, 6 (no record), 2, 3, 4.
@@ -57,7 +71,7 @@ pub fn start(words: &mut [u64], lent: &mut [u64], kind: Kind, key: u64) -> u64
     }
 }
 
-// One step of the record, read and put back.
+// One step of the record that the words are.
 fn record_step(words: &mut [u64], lent: &mut [u64]) -> u64
     ensures { λ r. ⌜ Comes verdictNumber (now (words .entry)) (now (lent .entry)) (stepOf (now (words .entry)) (workerOf (now (lent .entry)))) r (now (lent .exit)) (now (words .exit)) ⌝ }
 {
@@ -65,8 +79,11 @@ fn record_step(words: &mut [u64], lent: &mut [u64]) -> u64
     match r {
         Lent::Nothing => unread(words),
         Lent::Record(w) => {
-            let s = worker::step(words, w);
-            put_answer(lent, s)
+            let work = w.work;
+            let key = w.key;
+            let phase = w.phase;
+            let m = worker::move_on(words, work, key, phase);
+            put_moved(lent, work, key, m)
         }
     }
 }

@@ -5,10 +5,11 @@ use mathlib.Core.Bool.{Bool}
 use mathlib.Core.List.{List}
 use Prim.Native.Nat.{ℕ}
 use Rattle.table.specs.declared.Which.{Which}
-use Rattle.protocol.specs.Locks.{Did, allHeld, released, giveUp, lockStep}
+use Rattle.protocol.specs.Locks.{allHeld, released}
 use Rattle.protocol.specs.declared.Phase.{Phase}
 use Rattle.protocol.specs.declared.Links.{Links}
-use Rattle.protocol.specs.declared.Outcome.{Outcome}
+use Rattle.locks.specs.Acts.{takeLock, givenUp}
+use Rattle.locks.specs.declared.Acted.{Acted}
 
 pub all-held-one : (ws : List ℕ) (phase : Phase) (done : ℕ) (a b : Bool) → a ≡ allHeld ws phase done → b ≡ allHeld ws phase done → a ≡ b
 all-held-one ws phase done a b p q = p ∙ sym q
@@ -16,17 +17,15 @@ all-held-one ws phase done a b p q = p ∙ sym q
 pub release-all-one : (ws : List ℕ) (phase : Phase) (done : ℕ) (a b : List ℕ) → a ≡ released ws phase done → b ≡ released ws phase done → a ≡ b
 release-all-one ws phase done a b p q = p ∙ sym q
 
--- an outcome a, b with the words x, y
-did-one : (d : Did) (a b : Outcome) (x y : List ℕ) → (a ≡ d .said) × (x ≡ d .words) → (b ≡ d .said) × (y ≡ d .words) → (a ≡ b) × (x ≡ y)
-did-one d a b x y p q = (p .0 ∙ sym (q .0), p .1 ∙ sym (q .1))
+-- an answer a, b with the words x, y
+both-one : {A : Type 0} (d : A) (e : List ℕ) (a b : A) (x y : List ℕ) → (a ≡ d) × (x ≡ e) → (b ≡ d) × (y ≡ e) → (a ≡ b) × (x ≡ y)
+both-one d e a b x y p q = (p .0 ∙ sym (q .0), p .1 ∙ sym (q .1))
 
-pub give-up-one : (ws : List ℕ) (phase : Phase) (done : ℕ) (then : Outcome) (a b : Outcome) (x y : List ℕ)
-    → (a ≡ giveUp ws phase done then .said) × (x ≡ giveUp ws phase done then .words)
-    → (b ≡ giveUp ws phase done then .said) × (y ≡ giveUp ws phase done then .words) → (a ≡ b) × (x ≡ y)
-give-up-one ws phase done then a b x y p q = did-one (giveUp ws phase done then) a b x y p q
+pub give-up-one : (ws : List ℕ) (phase : Phase) (done : ℕ) (a b : Bool) (x y : List ℕ)
+    → (a ≡ allHeld ws phase done) × (x ≡ givenUp ws phase done) → (b ≡ allHeld ws phase done) × (y ≡ givenUp ws phase done) → (a ≡ b) × (x ≡ y)
+give-up-one ws phase done a b x y p q = both-one (allHeld ws phase done) (givenUp ws phase done) a b x y p q
 
-pub lock-step-one : (ws : List ℕ) (phase : Phase) (done : ℕ) (next : Phase) (slot : ℕ) (which : Which) (write : Bool) (state : ℕ) (links : Links)
-    (a b : Outcome) (x y : List ℕ) → let d = lockStep ws phase done next slot which write state links in
-    (a ≡ d .said) × (x ≡ d .words) → (b ≡ d .said) × (y ≡ d .words) → (a ≡ b) × (x ≡ y)
-lock-step-one ws phase done next slot which write state links a b x y p q =
-    did-one (lockStep ws phase done next slot which write state links) a b x y p q
+pub take-lock-one : (ws : List ℕ) (slot : ℕ) (which : Which) (write : Bool) (state : ℕ) (links : Links) (a b : Acted) (x y : List ℕ)
+    → let d = takeLock ws slot which write state links in (a ≡ d .said) × (x ≡ d .words) → (b ≡ d .said) × (y ≡ d .words) → (a ≡ b) × (x ≡ y)
+take-lock-one ws slot which write state links a b x y p q =
+    let d = takeLock ws slot which write state links in both-one (d .said) (d .words) a b x y p q

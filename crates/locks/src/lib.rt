@@ -2,14 +2,24 @@
 // protocol's definition.
 ghost use mathlib.Core.Path.{_≡_};
 ghost use Prim.Native.Nat.{ℕ, _-_};
-ghost use Rattle.protocol.specs.Locks.{stateFits, linksFit, clear, holds, weight, crowded, granted, heldOne, releaseOne, allHeld, released, giveUp, lockStep};
+ghost use Rattle.protocol.specs.Locks.{stateFits, linksFit, clear, holds, weight, crowded, granted, heldOne, releaseOne, allHeld, released};
+ghost use Rattle.locks.specs.Acts.{atMost, givenUp, takeLock};
 use plan::PRESENT;
 use protocol::Action;
+use protocol::Answer;
 use protocol::Links;
-use protocol::Outcome;
 use protocol::Phase;
 use table::DELETED;
 use table::Which;
+
+// What an action comes to by itself: it is done, its lock is denied, the work ends with an answer, or the step is refused.
+// What becomes of the phase is settled after it, so no phase is handed down.
+pub enum Acted {
+    Done,
+    Denied,
+    Finished(Answer),
+    Stopped(u64),
+}
 
 fn state_fits(want: u64, s: u64) -> bool
     ensures { λ r. ⌜ r ≡ stateFits want s ⌝ }
@@ -123,39 +133,44 @@ pub fn release_all(words: &mut [u64], phase: Phase, done: u64)
     }
 }
 
-// All locks held are judged, then all are given up.
-pub fn give_up(words: &mut [u64], phase: Phase, done: u64, then: Outcome) -> Outcome
-    ensures { λ r. ⌜ (r ≡ giveUp (now (words .entry)) phase done then .said) × (now (words .exit) ≡ giveUp (now (words .entry)) phase done then .words) ⌝ }
+fn at_most(n: u64, most: u64) -> u64
+    ensures { λ r. ⌜ r ≡ atMost n most ⌝ }
 {
-    if all_held(words, phase, done) {
-        release_all(words, phase, done);
-        then
-    } else {
-        Outcome::Refuses(6)
-    }
+    if n <= most { n } else { most }
 }
 
-pub fn lock_step(
+// All locks held are judged, then all are given up: true; or one is not held, and nothing changes. The plan's locks come first:
+// no action after them is asked for.
+pub fn give_up(words: &mut [u64], phase: Phase, done: u64) -> bool
+    ensures { λ r. ⌜ (r ≡ allHeld (now (words .entry)) phase done) × (now (words .exit) ≡ givenUp (now (words .entry)) phase done) ⌝ }
+{
+    let n = at_most(done, plan::locks_of(phase));
+    if !all_held(words, phase, n) {
+        return false;
+    }
+    release_all(words, phase, n);
+    true
+}
+
+// The lock is taken, denied, or refused 9 where 16 readers hold it.
+pub fn take_lock(
     words: &mut [u64],
-    phase: Phase,
-    done: u64,
-    next: Phase,
     slot: u64,
     which: Which,
     write: bool,
     state: u64,
     links: Links,
-) -> Outcome
-    ensures { λ r. ⌜ (r ≡ lockStep (now (words .entry)) phase done next slot which write state links .said) × (now (words .exit) ≡ lockStep (now (words .entry)) phase done next slot which write state links .words) ⌝ }
+) -> Acted
+    ensures { λ r. ⌜ (r ≡ takeLock (now (words .entry)) slot which write state links .said) × (now (words .exit) ≡ takeLock (now (words .entry)) slot which write state links .words) ⌝ }
 {
     if !is_granted(words, slot, which, write, state, links) {
-        return give_up(words, phase, done, Outcome::Goes(plan::at_root()));
+        return Acted::Denied;
     }
     let x = table::lock(words, slot, which);
     if is_crowded(write, x) {
-        return Outcome::Refuses(9);
+        return Acted::Stopped(9);
     }
     let y = x + weight_of(write);
     table::set_lock(words, slot, which, y);
-    Outcome::Goes(next)
+    Acted::Done
 }

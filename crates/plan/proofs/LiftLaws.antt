@@ -9,6 +9,7 @@ use Rattle.protocol.proofs.Phase.{the-type}
 use Rattle.protocol.specs.Plan.{doneOf}
 use Rattle.protocol.specs.declared.Phase.{Phase}
 use Rattle.protocol.specs.declared.Phase.the-variants.{Walk, OnRouting, New, Two, One, Leaf, UnderData, UnderRouting}
+use Rattle.plan.specs.First.{locksOf}
 use Rattle.plan.specs.Lifts.{Lifts}
 
 pub lifts-left : (p : Phase) → OneOf (4 ∷ 7 ∷ []) (tagOf the-type p) → Lifts p
@@ -41,3 +42,14 @@ none-done (One this prev side child toward done) t = absurd (miss (0 ∷ 5 ∷ [
 none-done (Leaf this prev side before up) t = refl
 none-done (UnderData this prev side done) t = absurd (miss (0 ∷ 5 ∷ []) 6 tt t)
 none-done (UnderRouting this prev side before up other done) t = absurd (miss (0 ∷ 5 ∷ []) 7 tt t)
+
+-- and take no lock
+pub none-locked : (p : Phase) → OneOf (0 ∷ 5 ∷ []) (tagOf the-type p) → 0 ≡ locksOf p
+none-locked (Walk at prev before side up) t = refl
+none-locked (OnRouting this done) t = absurd (miss (0 ∷ 5 ∷ []) 1 tt t)
+none-locked (New prev side done) t = absurd (miss (0 ∷ 5 ∷ []) 2 tt t)
+none-locked (Two this done) t = absurd (miss (0 ∷ 5 ∷ []) 3 tt t)
+none-locked (One this prev side child toward done) t = absurd (miss (0 ∷ 5 ∷ []) 4 tt t)
+none-locked (Leaf this prev side before up) t = refl
+none-locked (UnderData this prev side done) t = absurd (miss (0 ∷ 5 ∷ []) 6 tt t)
+none-locked (UnderRouting this prev side before up other done) t = absurd (miss (0 ∷ 5 ∷ []) 7 tt t)

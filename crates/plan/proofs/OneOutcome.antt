@@ -12,9 +12,14 @@ use Rattle.protocol.specs.declared.Kind.the-variants.{Lookup}
 use Rattle.protocol.specs.declared.Phase.{Phase}
 use Rattle.protocol.specs.declared.Phase.the-variants.{Walk}
 use Rattle.protocol.specs.declared.Action.{Action}
+use Rattle.plan.specs.Due.{dueOf}
+use Rattle.plan.specs.First.{locksOf}
 
 pub action-at-one : (phase : Phase) (i : ℕ) (a b : Action) → a ≡ actionAt phase i → b ≡ actionAt phase i → a ≡ b
 action-at-one phase i a b p q = p ∙ sym q
+
+pub due-one : (n : ℕ) (kind : Kind) (phase : Phase) (a b : Action) → a ≡ dueOf n kind phase → b ≡ dueOf n kind phase → a ≡ b
+due-one n kind phase a b p q = p ∙ sym q
 
 pub at-root-one : (a b : Phase) → a ≡ atRoot → b ≡ atRoot → a ≡ b
 at-root-one a b p q = p ∙ sym q
@@ -34,3 +39,6 @@ record-fine-one ws kind key phase a b p q = p ∙ sym q
 pub walk-fine-one : (ws : List ℕ) (key at prev before : ℕ) (a b : Bool) → a ≡ recordFine ws Lookup key (Walk at prev before true true)
     → b ≡ recordFine ws Lookup key (Walk at prev before true true) → a ≡ b
 walk-fine-one ws key at prev before a b p q = p ∙ sym q
+
+pub locks-of-one : (phase : Phase) (a b : ℕ) → a ≡ locksOf phase → b ≡ locksOf phase → a ≡ b
+locks-of-one phase a b p q = p ∙ sym q

@@ -1,1 +1,3 @@
+pub mod Due
+pub mod First
 pub mod Lifts

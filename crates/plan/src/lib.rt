@@ -7,12 +7,15 @@ ghost use Rattle.protocol.specs.Record.{recordFine};
 ghost use Rattle.protocol.specs.Calls.{stored};
 ghost use Rattle.protocol.specs.declared.Kind.the-variants.{Lookup};
 ghost use Rattle.protocol.specs.declared.Phase.the-variants.{Walk};
+ghost use Rattle.plan.specs.Due.{dueOf};
+ghost use Rattle.plan.specs.First.{locksOf};
 ghost use Rattle.plan.specs.Lifts.{Lifts};
 use protocol::Action;
 use protocol::Kind;
 use protocol::Phase;
 
 mod cases;
+mod dues;
 mod roles;
 
 // As an expected state: not deleted.
@@ -47,6 +50,17 @@ pub fn action_at(phase: Phase, i: u64) -> Action
             ..
         } => cases::under_data_at(this, prev, side, i),
         _ => cases::lifting_at(phase, i),
+    }
+}
+
+// The action that is due in a phase that neither walks nor looks, where its roles are fine.
+pub fn due(n: u64, kind: Kind, phase: Phase) -> Action
+    ensures { λ r. ⌜ r ≡ dueOf n kind phase ⌝ }
+{
+    match kind {
+        Kind::Lookup => Action::Beyond,
+        Kind::Insert => dues::insert_due(n, phase),
+        Kind::Remove => dues::remove_due(n, phase),
     }
 }
 
@@ -145,6 +159,21 @@ fn lifting_done(phase: Phase, n: u64) -> Phase
             done: n,
         },
         _ => phase,
+    }
+}
+
+// How many locks the case takes, before it stores.
+pub fn locks_of(phase: Phase) -> u64
+    ensures { λ r. ⌜ r ≡ locksOf phase ⌝ }
+{
+    match phase {
+        Phase::OnRouting { .. } => 1,
+        Phase::New { .. } => 2,
+        Phase::Two { .. } => 1,
+        Phase::One { .. } => 3,
+        Phase::UnderData { .. } => 3,
+        Phase::UnderRouting { .. } => 5,
+        _ => 0,
     }
 }
 

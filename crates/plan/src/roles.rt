@@ -1,10 +1,12 @@
 // The rules of a busy record: a phase of that kind of work that names no slot beyond n, none in two roles, and lacks
-// none. A kind's phases are judged by one function each; what no kind has of its own, the walk, stands in `lookup_roles`.
+// none. The test of a phase that counts its actions is a function of its numbers: who has taken the phase apart asks it
+// without the phase. A kind's phases are judged by one function each; what no kind has of its own, the walk, stands in
+// `lookup_roles`.
 ghost use mathlib.Core.Path.{_≡_};
 ghost use mathlib.Core.Bool.{true};
 ghost use Rattle.protocol.specs.Record.{roles};
 ghost use Rattle.protocol.specs.declared.Kind.the-variants.{Lookup, Insert, Remove};
-ghost use Rattle.protocol.specs.declared.Phase.the-variants.{Walk, UnderRouting};
+ghost use Rattle.protocol.specs.declared.Phase.the-variants.{Walk, OnRouting, New, One, UnderData, UnderRouting};
 use protocol::Kind;
 use protocol::Phase;
 
@@ -39,17 +41,42 @@ fn lookup_roles(n: u64, phase: Phase) -> bool
     }
 }
 
+// Of one slot that changes its state: an insert on routing, and a remove with two children.
+pub fn state_roles(n: u64, this: u64, done: u64) -> bool
+    ensures { λ r. ⌜ r ≡ roles n Insert (OnRouting this done) ⌝ }
+{
+    (this != 0) & (this < n) & (done < 3)
+}
+
+pub fn new_roles(n: u64, prev: u64, done: u64) -> bool
+    ensures { λ r. ⌜ r ≡ roles n Insert (New prev true done) ⌝ }
+{
+    (prev < n) & (done < 4)
+}
+
 fn insert_roles(n: u64, phase: Phase) -> bool
     ensures { λ r. ⌜ r ≡ roles n Insert phase ⌝ }
 {
     match phase {
-        Phase::OnRouting { this, done } => (this != 0) & (this < n) & (done < 3),
-        Phase::New { prev, done, .. } => (prev < n) & (done < 4),
+        Phase::OnRouting { this, done } => state_roles(n, this, done),
+        Phase::New { prev, done, .. } => new_roles(n, prev, done),
         _ => lookup_roles(n, phase),
     }
 }
 
-fn under_routing_roles(n: u64, this: u64, prev: u64, before: u64, other: u64, done: u64) -> bool
+pub fn one_roles(n: u64, this: u64, prev: u64, child: u64, done: u64) -> bool
+    ensures { λ r. ⌜ r ≡ roles n Remove (One this prev true child true done) ⌝ }
+{
+    (child != 0) & walk_roles(n, this, child, prev) & (done < 6)
+}
+
+pub fn under_data_roles(n: u64, this: u64, prev: u64, done: u64) -> bool
+    ensures { λ r. ⌜ r ≡ roles n Remove (UnderData this prev true done) ⌝ }
+{
+    (this != 0) & (this < n) & (prev < n) & (this != prev) & (done < 6)
+}
+
+pub fn under_routing_roles(n: u64, this: u64, prev: u64, before: u64, other: u64, done: u64) -> bool
     ensures { λ r. ⌜ r ≡ roles n Remove (UnderRouting this prev true before true other done) ⌝ }
 {
     (prev != 0)
@@ -64,14 +91,14 @@ fn remove_roles(n: u64, phase: Phase) -> bool
     ensures { λ r. ⌜ r ≡ roles n Remove phase ⌝ }
 {
     match phase {
-        Phase::Two { this, done } => (this != 0) & (this < n) & (done < 3),
+        Phase::Two { this, done } => state_roles(n, this, done),
         Phase::One {
             this,
             prev,
             child,
             done,
             ..
-        } => (child != 0) & walk_roles(n, this, child, prev) & (done < 6),
+        } => one_roles(n, this, prev, child, done),
         Phase::Leaf {
             this,
             prev,
@@ -83,7 +110,7 @@ fn remove_roles(n: u64, phase: Phase) -> bool
             prev,
             done,
             ..
-        } => (this != 0) & (this < n) & (prev < n) & (this != prev) & (done < 6),
+        } => under_data_roles(n, this, prev, done),
         Phase::UnderRouting {
             this,
             prev,

@@ -157,10 +157,10 @@ read-record s w e = go (isRecord s) refl
     go false r = absurd (false≢true (ap isNothing (sym e ∙ read-by s false r)))
 
 -- what the function that reads has in hand
-pub judged : (s : List ℕ) (f : Flat) (w : Worker) (b : Bool) → length s ≡ 11 → f ≡ flatAt s → w ≡ workerAt f
-    → b ≡ sameFlat f (flatOf w) → (isRecord s ≡ b) × (w ≡ workerOf s)
+pub judged : (s : List ℕ) (f : Flat) (b : Bool) → length s ≡ 11 → f ≡ flatAt s → b ≡ sameFlat f (flatOf (workerAt f))
+    → (isRecord s ≡ b) × (workerAt f ≡ workerOf s)
 unfolding isRecord
-judged s f w b n p q e = (rw (eq-eqb (length s) 11 n) (cc (p, q, e)), cc (p, q))
+judged s f b n p e = (rw (eq-eqb (length s) 11 n) (cc (p, e)), cc p)
 
 pub too-few : (s : List ℕ) → (length s ≡ 11 → ⊥) → isRecord s ≡ false
 unfolding isRecord

@@ -5,7 +5,7 @@ use mathlib.Core.Bool.{Bool}
 use mathlib.Core.List.{List}
 use Prim.Native.Nat.{ℕ}
 use Rattle.protocol.specs.declared.Worker.{Worker}
-use Rattle.records.specs.Records.{readOf, putRecord, isWalk, walkOn}
+use Rattle.records.specs.Records.{readOf, putRecord, isWalk, walkOn, countOn}
 use Rattle.records.specs.declared.Lent.{Lent}
 
 pub read-one : (s : List ℕ) (a b : Lent) → a ≡ readOf s → b ≡ readOf s → a ≡ b
@@ -19,3 +19,6 @@ is-walk-one s a b p q = p ∙ sym q
 
 pub walk-on-one : (s : List ℕ) (next : ℕ) (left : Bool) (a b : List ℕ) → a ≡ walkOn s next left → b ≡ walkOn s next left → a ≡ b
 walk-on-one s next left a b p q = p ∙ sym q
+
+pub count-on-one : (s : List ℕ) (a b : List ℕ) → a ≡ countOn s → b ≡ countOn s → a ≡ b
+count-on-one s a b p q = p ∙ sym q

@@ -2,11 +2,11 @@
 -- under previous, the one before, the side of previous under it, the child or other child, the child's side, and how many
 -- of the plan's actions are done. What a phase does not note is 0; a side is 0 for left and 1 for right.
 -- Assumes nothing.
-use mathlib.Core.Bool.{Bool, true, false, cond, _&&_}
+use mathlib.Core.Bool.{Bool, true, false, cond, not, _&&_}
 use mathlib.Core.List.{List, [], _∷_}
-use Prim.Native.Nat.{ℕ}
-use lib.Dec.{eqb, leb}
-use lib.ListN.{length, getD}
+use Prim.Native.Nat.{ℕ, _+_}
+use lib.Dec.{eqb, leb, ltb}
+use lib.ListN.{length, getD, set}
 use lib.Seq.{sets}
 use Rattle.protocol.specs.declared.Kind.{Kind}
 use Rattle.protocol.specs.declared.Kind.the-variants.{Lookup, Insert, Remove}
@@ -150,6 +150,21 @@ sameFlat a b =
 unfoldable pub isRecord : List ℕ → Bool
 isRecord s = eqb (length s) 11 && sameFlat (flatAt s) (flatOf (workerOf s))
 
+-- The code makes no words again to compare them: it asks that the work is 3 at most and, by phase, that a side is 0 or 1 and
+-- that what the phase does not note is 0. `proofs/OwnWords.antt` shows that this is the same.
+unfoldable pub phaseOwn : ℕ → ℕ → ℕ → ℕ → ℕ → ℕ → ℕ → ℕ → ℕ → Bool
+phaseOwn n this prev side before up other toward done =
+    let walk = leb side 1 && leb up 1 && eqb other 0 && eqb toward 0 && eqb done 0 in
+    let alone = eqb prev 0 && eqb side 0 && eqb before 0 && eqb up 0 && eqb other 0 && eqb toward 0 in
+    cond (eqb n 0) walk
+    (cond (eqb n 1) alone
+    (cond (eqb n 2) (eqb this 0 && leb side 1 && eqb before 0 && eqb up 0 && eqb other 0 && eqb toward 0)
+    (cond (eqb n 3) alone
+    (cond (eqb n 4) (leb side 1 && eqb before 0 && eqb up 0 && leb toward 1)
+    (cond (eqb n 5) walk
+    (cond (eqb n 6) (leb side 1 && eqb before 0 && eqb up 0 && eqb other 0 && eqb toward 0)
+    (cond (eqb n 7) (leb side 1 && leb up 1 && eqb toward 0) false)))))))
+
 -- what lent words are
 unfoldable pub readOf : List ℕ → Lent
 readOf s = cond (isRecord s) (Record (workerOf s)) Nothing
@@ -171,3 +186,10 @@ isWalk s =
 unfoldable pub walkOn : List ℕ → ℕ → Bool → List ℕ
 walkOn s next left =
     cond (eqb (length s) 11) (sets s 3 (next ∷ getD s 3 0 ∷ sideNumber left ∷ getD s 4 0 ∷ getD s 5 0 ∷ [])) s
+
+-- A phase of the plan that goes on has one more action done. `proofs/Counts.antt` shows that a record's words become those of
+-- the record with the next phase.
+unfoldable pub countOn : List ℕ → List ℕ
+countOn s =
+    cond (eqb (length s) 11 && (not (eqb (getD s 2 0) 0) && not (eqb (getD s 2 0) 5) && ltb (getD s 10 0) 9))
+    (set s 10 (getD s 10 0 + 1)) s

@@ -2,12 +2,13 @@
 ghost use mathlib.Core.Path.{_≡_};
 ghost use mathlib.Core.Bool.{true};
 ghost use lib.ListN.{length};
-ghost use Rattle.records.specs.Records.{sideNumber, kindNumber, workNumber, flatAt, notedOf, isRemover, phaseFlat, flatOf, sameFlat, readOf, listed, putRecord, isWalk, walkOn};
+ghost use Rattle.records.specs.Records.{sideNumber, kindNumber, workNumber, flatAt, notedOf, isRemover, phaseFlat, flatOf, readOf, listed, putRecord, isWalk, walkOn, countOn};
 use protocol::Kind;
 use protocol::Phase;
 use protocol::Work;
 use protocol::Worker;
 
+mod own;
 mod reading;
 
 // How many words a record has.
@@ -156,22 +157,6 @@ fn flat_of(w: Worker) -> Flat
     phase_flat(work_number(work), w.key, phase)
 }
 
-fn same(a: Flat, b: Flat) -> bool
-    ensures { λ r. ⌜ r ≡ sameFlat a b ⌝ }
-{
-    (a.work == b.work)
-        & (a.key == b.key)
-        & (a.phase == b.phase)
-        & (a.this == b.this)
-        & (a.prev == b.prev)
-        & (a.side == b.side)
-        & (a.before == b.before)
-        & (a.up == b.up)
-        & (a.other == b.other)
-        & (a.toward == b.toward)
-        & (a.done == b.done)
-}
-
 fn flat_at(s: &[u64]) -> Flat
     requires { ⌜ length (now s) ≡ 11 ⌝ }
     ensures { λ r. ⌜ r ≡ flatAt (now (s .entry)) ⌝ }
@@ -199,9 +184,8 @@ pub fn read(s: &[u64]) -> Lent
         return Lent::Nothing;
     }
     let f = flat_at(s);
-    let w = reading::worker_of(f);
-    if same(f, flat_of(w)) {
-        return Lent::Record(w);
+    if own::is_own(f) {
+        return Lent::Record(reading::worker_of(f));
     }
     Lent::Nothing
 }
@@ -264,5 +248,20 @@ pub fn walk_on(s: &mut [u64], next: u64, left: bool)
         s[5] = side_number(left);
         s[6] = prev;
         s[7] = side;
+    }
+}
+
+// A phase of the plan that goes on
+
+// Counts one more action as done. Nothing where the words are not eleven, walk or look, or count nine.
+pub fn count_on(s: &mut [u64])
+    ensures { λ _. ⌜ now (s .exit) ≡ countOn (now (s .entry)) ⌝ }
+{
+    if s.len() == WORDS {
+        let phase = s[2];
+        let done = s[10];
+        if (phase != 0) & (phase != 5) & (done < 9) {
+            s[10] = done + 1;
+        }
     }
 }

@@ -1,2 +1,3 @@
+pub mod MovingLaws
 pub mod WalkLaws
 pub mod OneOutcome

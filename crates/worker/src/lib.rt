@@ -9,12 +9,14 @@ ghost use Rattle.protocol.specs.Record.{recordFine};
 ghost use Rattle.protocol.specs.Says.{answerSays};
 ghost use Rattle.protocol.specs.Step.{stepOf, idleWorker};
 ghost use Rattle.protocol.specs.Calls.{idle, judgeStart, startOf, judgeBusy, judgeWithdraw, withdrawOf};
+ghost use Rattle.acting.specs.Moves.{stepMove};
+ghost use Rattle.worker.specs.Moving.{leftBy};
 ghost use Rattle.protocol.specs.declared.Kind.the-variants.{Lookup};
 ghost use Rattle.protocol.specs.declared.Work.the-variants.{Busy};
 ghost use Rattle.protocol.specs.declared.Phase.the-variants.{Walk};
+use acting::Moved;
 use protocol::Answer;
 use protocol::Kind;
-use protocol::Outcome;
 use protocol::Phase;
 use protocol::Replied;
 use protocol::Stepped;
@@ -25,7 +27,7 @@ use table::Reply;
 mod seats;
 
 // The record of a worker that is not busy.
-fn idle_worker() -> Worker
+pub fn idle_worker() -> Worker
     ensures { λ r. ⌜ r ≡ idleWorker ⌝ }
 {
     Worker {
@@ -35,6 +37,19 @@ fn idle_worker() -> Worker
     }
 }
 
+// One step, told and not made: for a caller that keeps its records in a form of its own, and moves them on there. The seat
+// is given up where the work is over.
+pub fn move_on(words: &mut [u64], work: Work, key: u64, phase: Phase) -> Moved
+    ensures { λ r. ⌜ (r ≡ stepMove (now (words .entry)) work key phase .said) × (now (words .exit) ≡ leftBy r (stepMove (now (words .entry)) work key phase .words)) ⌝ }
+{
+    let m = acting::step_on(words, work, key, phase);
+    match m {
+        Moved::Over(_) => seats::leave_seat(words),
+        _ => {}
+    }
+    m
+}
+
 // One step. A record that is idle or damaged is refused; that it belongs to another table is not seen.
 pub fn step(words: &mut [u64], w: Worker) -> Stepped
     ensures { λ r. ⌜ (answerSays (r .answer) ≡ stepOf (now (words .entry)) w .says) × (r .worker ≡ stepOf (now (words .entry)) w .worker) × (now (words .exit) ≡ stepOf (now (words .entry)) w .words) ⌝ }
@@ -42,9 +57,17 @@ pub fn step(words: &mut [u64], w: Worker) -> Stepped
     let work = w.work;
     let key = w.key;
     let phase = w.phase;
-    let o = acting::step_on(words, work, key, phase);
-    match o {
-        Outcome::Goes(p) => Stepped {
+    let m = move_on(words, work, key, phase);
+    match m {
+        Moved::On => Stepped {
+            answer: Answer::Going,
+            worker: Worker {
+                work,
+                key,
+                phase: plan::with_done(phase, plan::done_of(phase) + 1),
+            },
+        },
+        Moved::To(p) => Stepped {
             answer: Answer::Going,
             worker: Worker {
                 work,
@@ -52,14 +75,11 @@ pub fn step(words: &mut [u64], w: Worker) -> Stepped
                 phase: p,
             },
         },
-        Outcome::Ends(a) => {
-            seats::leave_seat(words);
-            Stepped {
-                answer: a,
-                worker: idle_worker(),
-            }
-        }
-        Outcome::Refuses(n) => Stepped {
+        Moved::Over(a) => Stepped {
+            answer: a,
+            worker: idle_worker(),
+        },
+        Moved::Stays(n) => Stepped {
             answer: Answer::Refused(n),
             worker: w,
         },

@@ -1,46 +1,71 @@
 use mathlib.Core.Path.{sym, _∙_}
-use native.Mathlib.Omega.{arith}
+use mathlib.Core.Bool.{not, _&&_}
+use lib.Dec.{eqb}
 use borrow.Author.Tests.{not-true, not-false}
-use Rattle.acting.specs.Acts.{planStep}
+use Rattle.acting.specs.Moves.{planMove, settled}
 use borrow.Author.Needs.{needs}
 use Rattle.acting.proofs.plan_step.Statement.{statement}
 use Rattle.acting.proofs.plan_step.Tie as tie
 
-done-of-requires : tie.Need-done-of-requires
-done-of-requires c κs = tt
+legal-requires : tie.Need-legal-requires
+legal-requires c κs = tt
 
-action-at-requires : tie.Need-action-at-requires
-action-at-requires c κs = tt
-
-reads-fine-requires : tie.Need-reads-fine-requires
-reads-fine-requires c κs = tt
+busy-requires : tie.Need-busy-requires
+busy-requires c κs = tt
 
 same-length : tie.Need-same-length
 same-length c = search needs
 
 returns : tie.Need-returns
-unfolding planStep
-returns c = let q = rw (c .before .before .before .action-at .ensures, c .before .before .before .before .done-of .ensures) at (sym (c .before .reads-fine .ensures) ∙ not-true (c .before .reads-fine .result) (c .if1 .taken)) in
+unfolding planMove
+returns c = let b = c .before in
+    let q = rw (b .before .before .legal .ensures, b .busy .ensures) at (not-true (b .before .before .legal .result && not (eqb (b .busy .result) 0)) (c .if1 .taken)) in
     (simp q, simp q)
 
-add-with-done : tie.Need-add-with-done
-add-with-done c = let d = c .before .before .before .before .done-of .ensures in
-    record { fits = omega (arith, c .before .before .before .before .before .before .pre) }
+slots-requires : tie.Need-slots-requires
+slots-requires c κs = tt
 
-with-done-requires : tie.Need-with-done-requires
-with-done-requires c κs = tt
+due-requires : tie.Need-due-requires
+due-requires c κs = tt
 
-act-on-requires : tie.Need-act-on-requires
-act-on-requires c κs = tt
+reads-fine-requires : tie.Need-reads-fine-requires
+reads-fine-requires c κs = tt
 
 same-length-2 : tie.Need-same-length-2
 same-length-2 c = search needs
 
 returns-2 : tie.Need-returns-2
-unfolding planStep
-returns-2 c = let q = rw (c .before .before .before .before .before .before .before .before .action-at .ensures, c .before .before .before .before .before .before .before .before .before .done-of .ensures) at (sym (c .before .before .before .before .before .before .reads-fine .ensures) ∙ not-false (c .before .before .before .before .before .before .reads-fine .result) (c .before .before .before .before .before .if1 .left)) in
-    let s = rw (c .before .before .before .before .with-done .ensures, c .before .before .before .before .before .before .before .before .action-at .ensures, c .before .before .before .before .before .before .before .before .before .done-of .ensures) at (c .before .before .act-on .ensures) in
-    (simp q (s .0), simp q (s .1))
+unfolding planMove
+returns-2 c = let r = c .before in
+    let d = r .before .before in
+    let i = d .before .before .before in
+    let b = i .before in
+    let q = rw (b .before .before .legal .ensures, b .busy .ensures) at (not-false (b .before .before .legal .result && not (eqb (b .busy .result) 0)) (i .if1 .left)) in
+    let f = rw (d .due .ensures, d .before .slots .ensures) at (sym (r .reads-fine .ensures) ∙ not-true (r .reads-fine .result) (c .if2 .taken)) in
+    (simp (q, f), simp (q, f))
+
+act-on-requires : tie.Need-act-on-requires
+act-on-requires c κs = tt
+
+settle-on-requires : tie.Need-settle-on-requires
+settle-on-requires c κs = tt
+
+same-length-3 : tie.Need-same-length-3
+same-length-3 c = search needs
+
+returns-3 : tie.Need-returns-3
+unfolding planMove settled
+returns-3 c = let s = c .before .before in
+    let o = s .before .before .before .before in
+    let e = o .before .before in
+    let r = e .before in
+    let d = r .before .before in
+    let i = d .before .before .before in
+    let b = i .before in
+    let q = rw (b .before .before .legal .ensures, b .busy .ensures) at (not-false (b .before .before .legal .result && not (eqb (b .busy .result) 0)) (i .if1 .left)) in
+    let f = rw (d .due .ensures, d .before .slots .ensures) at (sym (r .reads-fine .ensures) ∙ not-false (r .reads-fine .result) (e .if2 .left)) in
+    let t = rw (o .act-on .ensures .0, o .act-on .ensures .1, d .due .ensures, d .before .slots .ensures) at (s .settle-on .ensures) in
+    (simp (q, f) (t .0), simp (q, f) (t .1))
 
 pub plan-step-spec : {M : Type 1} → statement M
-plan-step-spec = tie.close (tie.spec done-of-requires action-at-requires reads-fine-requires same-length returns add-with-done with-done-requires act-on-requires same-length-2 returns-2)
+plan-step-spec = tie.close (tie.spec legal-requires busy-requires same-length returns slots-requires due-requires reads-fine-requires same-length-2 returns-2 act-on-requires settle-on-requires same-length-3 returns-3)

@@ -2,29 +2,22 @@ use mathlib.Core.Path.{sym, _∙_}
 use native.Mathlib.Omega.{arith}
 use borrow.Author.Tests.{not-true, not-false}
 use Rattle.table.proofs.PairLaws.{lock-lt}
-use Rattle.protocol.specs.Locks.{lockStep}
 use Rattle.protocol.proofs.LockLaws.{weight-lt}
+use Rattle.locks.specs.Acts.{takeLock}
 use borrow.Author.Needs.{needs}
-use Rattle.locks.proofs.lock_step.Statement.{statement}
-use Rattle.locks.proofs.lock_step.Tie as tie
+use Rattle.locks.proofs.take_lock.Statement.{statement}
+use Rattle.locks.proofs.take_lock.Tie as tie
 
 is-granted-requires : tie.Need-is-granted-requires
 is-granted-requires c κs = tt
-
-at-root-requires : tie.Need-at-root-requires
-at-root-requires c κs = tt
-
-give-up-requires : tie.Need-give-up-requires
-give-up-requires c κs = tt
 
 same-length : tie.Need-same-length
 same-length c = search needs
 
 returns : tie.Need-returns
-unfolding lockStep
-returns c = let q = sym (c .before .before .before .before .before .before .is-granted .ensures) ∙ not-true (c .before .before .before .before .before .before .is-granted .result) (c .before .before .before .before .before .if1 .taken) in
-    let g = rw (c .before .before .before .at-root .ensures) at (c .before .before .give-up .ensures) in
-    (simp q (g .0), simp q (g .1))
+unfolding takeLock
+returns c = let q = sym (c .before .is-granted .ensures) ∙ not-true (c .before .is-granted .result) (c .if1 .taken) in
+    (simp q, simp q)
 
 lock-requires : tie.Need-lock-requires
 lock-requires c κs = tt
@@ -36,7 +29,7 @@ same-length-2 : tie.Need-same-length-2
 same-length-2 c = search needs
 
 returns-2 : tie.Need-returns-2
-unfolding lockStep
+unfolding takeLock
 returns-2 c = let q = sym (c .before .before .before .before .before .is-granted .ensures) ∙ not-false (c .before .before .before .before .before .is-granted .result) (c .before .before .before .before .if1 .left) in
     let w = rw (c .before .before .lock .ensures) at (sym (c .before .is-crowded .ensures) ∙ c .if2 .taken) in
     (simp (q, w), simp (q, w))
@@ -57,18 +50,16 @@ same-length-3 : tie.Need-same-length-3
 same-length-3 c = search needs
 
 returns-3 : tie.Need-returns-3
-unfolding lockStep
+unfolding takeLock
 returns-3 c = let q = sym (c .before .before .before .before .before .before .before .before .before .before .is-granted .ensures) ∙ not-false (c .before .before .before .before .before .before .before .before .before .before .is-granted .result) (c .before .before .before .before .before .before .before .before .before .if1 .left) in
     let w = rw (c .before .before .before .before .before .before .before .lock .ensures) at (sym (c .before .before .before .before .before .before .is-crowded .ensures) ∙ c .before .before .before .before .before .if2 .left) in
     (simp (q, w), simp (q, w) (rw (c .before .before .before .before .weight-of .ensures, c .before .before .before .before .before .before .before .lock .ensures) at (c .before .before .set-lock .ensures)))
 
-pub lock-step-spec : {M : Type 1} → statement M
-lock-step-spec =
+pub take-lock-spec : {M : Type 1} → statement M
+take-lock-spec =
     tie.close
     (tie.spec
     is-granted-requires
-    at-root-requires
-    give-up-requires
     same-length
     returns
     lock-requires

@@ -1,0 +1,39 @@
+-- What an action comes to by itself, before it is settled what becomes of the phase: `lockStep` without its phases.
+-- `acting/proofs/ActLaws.antt` has that, settled, it is the protocol's.
+-- Assumes nothing.
+use mathlib.Core.Bool.{Bool, cond}
+use mathlib.Core.List.{List}
+use Prim.Native.Nat.{ℕ, _+_}
+use lib.Dec.{leb}
+use Rattle.table.specs.Pair.{lockOf, setLock}
+use Rattle.table.specs.declared.Which.{Which}
+use Rattle.protocol.specs.Locks.{weight, crowded, granted, allHeld, released}
+use Rattle.protocol.specs.declared.Phase.{Phase}
+use Rattle.protocol.specs.declared.Links.{Links}
+use Rattle.locks.specs.declared.Acted.{Acted}
+use Rattle.locks.specs.declared.Acted.the-variants.{Done, Denied, Stopped}
+
+-- what it says, and the words after it
+pub record Act : Type 0 where
+  pub said : Acted
+  pub words : List ℕ
+
+abbrev pub act : Acted → List ℕ → Act
+act a ws = record { said = a; words = ws }
+
+-- a lock that is asked for
+unfoldable pub takeLock : List ℕ → ℕ → Which → Bool → ℕ → Links → Act
+takeLock ws slot which write state links =
+    cond (granted ws slot which write state links)
+    (cond (crowded write (lockOf ws slot which))
+    (act (Stopped 9) ws)
+    (act Done (setLock ws slot which (lockOf ws slot which + weight write))))
+    (act Denied ws)
+
+-- a number, or the most that it may be
+abbrev pub atMost : ℕ → ℕ → ℕ
+atMost n most = cond (leb n most) n most
+
+-- the locks of the first n actions, given up where all are held
+unfoldable pub givenUp : List ℕ → Phase → ℕ → List ℕ
+givenUp ws p n = cond (allHeld ws p n) (released ws p n) ws

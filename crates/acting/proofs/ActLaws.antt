@@ -3,8 +3,7 @@
 use mathlib.Core.Path.{_≡_, refl}
 use mathlib.Core.Bool.{Bool, true}
 use mathlib.Core.List.{List, [], _∷_}
-use Prim.Native.Nat.{ℕ, zero, suc}
-use lib.ListN.{getD}
+use Prim.Native.Nat.{ℕ}
 use types.Run.{OneOf, miss}
 use denote.Enum.Declared.{tagOf}
 use Rattle.protocol.proofs.Action.{the-type as actions}
@@ -21,16 +20,17 @@ use Rattle.protocol.specs.declared.Action.{Action}
 use Rattle.protocol.specs.declared.Action.the-variants.{Visit, Look, Lock, Mark, Link, Take, End, Beyond}
 use Rattle.protocol.specs.declared.Answer.the-variants.{No}
 use Rattle.protocol.specs.declared.Outcome.the-variants.{Ends}
+use Rattle.protocol.proofs.Together.Wishes.{All}
+use Rattle.plan.proofs.Actions.{all-at}
 use Rattle.locks.proofs.Acted.{the-type as acteds}
-use Rattle.locks.specs.Acts.{act}
+use Rattle.locks.specs.Taking.{after}
 use Rattle.locks.specs.declared.Acted.{Acted}
 use Rattle.locks.specs.declared.Acted.the-variants.{Done, Denied, Finished, Stopped}
 use Rattle.acting.specs.Acts.{actOn}
 use Rattle.acting.specs.Moves.{thenOf, leaves, settle, planMove, busyMove}
 use Rattle.acting.specs.declared.Moved.the-variants.{To}
-use Rattle.protocol.specs.Plan.{doneOf}
 
-pub act-other : (ws : List ℕ) (key : ℕ) (a : Action) → OneOf (0 ∷ 1 ∷ 7 ∷ []) (tagOf actions a) → act (Stopped 6) ws ≡ actOn ws key a
+pub act-other : (ws : List ℕ) (key : ℕ) (a : Action) → OneOf (0 ∷ 1 ∷ 7 ∷ []) (tagOf actions a) → after (Stopped 6) ws ≡ actOn ws key a
 unfolding actOn
 act-other ws key (Visit at prev before side up) t = refl
 act-other ws key (Look this prev side before up) t = refl
@@ -47,7 +47,7 @@ then-other Denied t = refl
 then-other (Finished x) t = absurd (miss (0 ∷ 1 ∷ 3 ∷ []) 2 tt t)
 then-other (Stopped k) t = refl
 
-pub settle-other : (p : Phase) (a : Acted) (ws : List ℕ) → OneOf (1 ∷ 2 ∷ []) (tagOf acteds a) → leaves ws p (doneOf p) (thenOf a) ≡ settle p a ws
+pub settle-other : (p : Phase) (a : Acted) (ws : List ℕ) → OneOf (1 ∷ 2 ∷ []) (tagOf acteds a) → leaves ws p (thenOf a) ≡ settle p a ws
 unfolding settle
 settle-other p Done ws t = absurd (miss (1 ∷ 2 ∷ []) 0 tt t)
 settle-other p Denied ws t = refl
@@ -84,15 +84,6 @@ Acts (Take prev side) = Unit {0}
 Acts End = Unit {0}
 Acts Beyond = Unit {0}
 
-abbrev All : List Action → Type 0
-All [] = Unit {0}
-All (a ∷ rest) = Acts a × All rest
-
-all-at : (l : List Action) → All l → (i : ℕ) → Acts (getD l i Beyond)
-all-at [] h i = tt
-all-at (a ∷ rest) h zero = h .0
-all-at (a ∷ rest) h (suc i) = all-at rest (h .1) i
-
 abbrev pub Planned : Phase → Type 0
 Planned (Walk at prev before side up) = ⊥
 Planned (OnRouting this done) = Unit {0}
@@ -103,7 +94,7 @@ Planned (Leaf this prev side before up) = ⊥
 Planned (UnderData this prev side done) = Unit {0}
 Planned (UnderRouting this prev side before up other done) = Unit {0}
 
-all-of : (p : Phase) → Planned p → All (plan p)
+all-of : (p : Phase) → Planned p → All Acts (plan p)
 unfolding plan
 all-of (Walk at prev before side up) t = absurd t
 all-of (OnRouting this done) t = (tt, (tt, (tt, tt)))
@@ -116,7 +107,7 @@ all-of (UnderRouting this prev side before up other done) t = (tt, (tt, (tt, (tt
 
 pub acts-at : (p : Phase) (i : ℕ) → Planned p → Acts (actionAt p i)
 unfolding actionAt
-acts-at p i t = all-at (plan p) (all-of p t) i
+acts-at p i t = all-at Acts tt (plan p) (all-of p t) i
 
 -- the record's rules do not look at the work or the sides of a walk
 pub any-work : (ws : List ℕ) (kind : Kind) (key at prev before : ℕ) (side up : Bool)

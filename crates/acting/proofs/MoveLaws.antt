@@ -1,6 +1,6 @@
 -- The code's way through a step is the protocol's: what `stepMove` tells is what `stepDid` says.
 -- Assumes nothing.
-use mathlib.Core.Path.{_≡_, refl, sym, ap, _∙_}
+use mathlib.Core.Path.{_≡_, refl, ap, _∙_}
 use mathlib.Core.Bool.{Bool, true, false, cond, not, _&&_, false≢true}
 use mathlib.Core.List.{List}
 use Prim.Native.Nat.{ℕ, _+_, _<_}
@@ -26,44 +26,44 @@ use Rattle.protocol.specs.declared.Outcome.{Outcome}
 use Rattle.protocol.specs.declared.Outcome.the-variants.{Goes, Ends, Refuses}
 use Rattle.protocol.proofs.PlanLaws.{record-done}
 use Rattle.plan.specs.Due.{dueAt, dueOf}
-use Rattle.locks.specs.Acts.{Act, act, takeLock}
+use Rattle.locks.specs.Taking.{after, takeLock}
 use Rattle.locks.specs.declared.Acted.the-variants.{Done, Denied, Finished, Stopped}
 use Rattle.acting.specs.Acts.{takes, actOn}
-use Rattle.acting.specs.Moves.{move, outcomeOf, asDid, movedOf, leaves, settle, settled, planMove, busyMove, workMove, stepMove}
+use Rattle.acting.specs.Moves.{outcomeOf, asDid, movedOf, leaves, settle, settleAct, planMove, busyMove, workMove, stepMove}
 use Rattle.acting.specs.declared.Moved.{Moved}
-use Rattle.acting.specs.declared.Moved.the-variants.{On, To, Over, Stays}
-use Rattle.acting.proofs.ActLaws.{Acts, Planned, acts-at, any-work}
+use Rattle.acting.specs.declared.Moved.the-variants.{To, Over, Stays}
+use Rattle.acting.proofs.ActLaws.{Acts, Planned, acts-at}
 
 -- giving up is the protocol's
-leaves-did : (ws : List ℕ) (p : Phase) (n : ℕ) (m : Moved) → asDid p (leaves ws p n m) ≡ giveUp ws p n (outcomeOf p m)
+leaves-did : (ws : List ℕ) (p : Phase) (m : Moved) → asDid p (leaves ws p m) ≡ giveUp ws p (doneOf p) (outcomeOf p m)
 unfolding asDid leaves giveUp
-leaves-did ws p n m = go (allHeld ws p n)
+leaves-did ws p m = go (allHeld ws p (doneOf p)) (released ws p (doneOf p))
   where
-    go : (h : Bool) → asDid p (cond h (move m (released ws p n)) (move (Stays 6) ws)) ≡ cond h (did (outcomeOf p m) (released ws p n)) (did (Refuses 6) ws)
-    go true = refl
-    go false = refl
+    go : (h : Bool) (vs : List ℕ) → asDid p (cond h (after m vs) (after (Stays 6) ws)) ≡ cond h (did (outcomeOf p m) vs) (did (Refuses 6) ws)
+    go true vs = refl
+    go false vs = refl
 
 -- An action, settled, is the protocol's
 
 lock-settled : (ws vs : List ℕ) (p : Phase) (g c : Bool)
-    → asDid p (settled p (cond g (cond c (act (Stopped 9) ws) (act Done vs)) (act Denied ws)))
+    → asDid p (settleAct p (cond g (cond c (after (Stopped 9) ws) (after Done vs)) (after Denied ws)))
     ≡ cond g (cond c (did (Refuses 9) ws) (did (Goes (nextOf p)) vs)) (giveUp ws p (doneOf p) (Goes atRoot))
-unfolding asDid settled settle
+unfolding asDid settleAct settle
 lock-settled ws vs p true true = refl
 lock-settled ws vs p true false = refl
-lock-settled ws vs p false c = leaves-did ws p (doneOf p) (To atRoot)
+lock-settled ws vs p false c = leaves-did ws p (To atRoot)
 
 take-settled : (ws vs : List ℕ) (p : Phase) (e z : Bool)
-    → asDid p (settled p (cond e (act (Finished Full) ws) (cond z (act Done vs) (act (Stopped 6) ws))))
+    → asDid p (settleAct p (cond e (after (Finished Full) ws) (cond z (after Done vs) (after (Stopped 6) ws))))
     ≡ cond e (giveUp ws p (doneOf p) (Ends Full)) (cond z (did (Goes (nextOf p)) vs) (did (Refuses 6) ws))
-unfolding asDid settled settle
-take-settled ws vs p true z = leaves-did ws p (doneOf p) (Over Full)
+unfolding asDid settleAct settle
+take-settled ws vs p true z = leaves-did ws p (Over Full)
 take-settled ws vs p false true = refl
 take-settled ws vs p false false = refl
 
 act-settled : (ws : List ℕ) (kind : Kind) (key : ℕ) (p : Phase) (a : Action) → Acts a
-    → asDid p (settled p (actOn ws key a)) ≡ actStep ws kind key p (doneOf p) (nextOf p) a
-unfolding asDid settled settle actOn takeLock takes actStep lockStep takeStep
+    → asDid p (settleAct p (actOn ws key a)) ≡ actStep ws kind key p (doneOf p) (nextOf p) a
+unfolding asDid settleAct settle actOn takeLock takes actStep lockStep takeStep
 act-settled ws kind key p (Visit at prev before side up) t = absurd t
 act-settled ws kind key p (Look this prev side before up) t = absurd t
 act-settled ws kind key p (Lock slot which write state links) t =
@@ -72,7 +72,7 @@ act-settled ws kind key p (Mark slot to) t = refl
 act-settled ws kind key p (Link slot side to) t = refl
 act-settled ws kind key p (Take prev side) t =
     let f = lowestFit ws in take-settled ws (setLink (taken ws f key) prev side f) p (eqb f 0) (zeroPair ws f)
-act-settled ws kind key p End t = leaves-did ws p (doneOf p) (Over Yes)
+act-settled ws kind key p End t = leaves-did ws p (Over Yes)
 act-settled ws kind key p Beyond t = refl
 
 -- What is due
@@ -98,14 +98,14 @@ unfolding planMove busyStep recordFine readsFine asDid
 plan-moves ws kind key p t = go (legalOf key) (roles (slotsOf ws) kind p) (not (eqb (busyOf ws) 0)) (dueOf (slotsOf ws) kind p) (due-planned (slotsOf ws) kind p t)
   where
     go : (l f b : Bool) (a : Action) → a ≡ cond f (actionOf p) Beyond
-        → asDid p (cond (l && b && readsFine ws a) (settled p (actOn ws key a)) (move (Stays 6) ws))
+        → asDid p (cond (l && b && readsFine ws a) (settleAct p (actOn ws key a)) (after (Stays 6) ws))
         ≡ cond ((l && f && b) && readsFine ws (actionOf p)) (actStep ws kind key p (doneOf p) (nextOf p) (actionOf p)) (did (Refuses 6) ws)
     go false f b a e = refl
     go true f false a e = none-busy f (readsFine ws (actionOf p)) (did (Refuses 6) ws) (actStep ws kind key p (doneOf p) (nextOf p) (actionOf p))
     go true false true a e = rw e
     go true true true a e = rw e (read (readsFine ws (actionOf p)))
       where
-        read : (r : Bool) → asDid p (cond r (settled p (actOn ws key (actionOf p))) (move (Stays 6) ws))
+        read : (r : Bool) → asDid p (cond r (settleAct p (actOn ws key (actionOf p))) (after (Stays 6) ws))
             ≡ cond r (actStep ws kind key p (doneOf p) (nextOf p) (actionOf p)) (did (Refuses 6) ws)
         read true = act-settled ws kind key p (actionOf p) (acts-at p (doneOf p) t)
         read false = refl
@@ -121,7 +121,7 @@ did-cond : (b : Bool) (o o′ : Outcome) (ws : List ℕ) → did (cond b o o′)
 did-cond true o o′ ws = refl
 did-cond false o o′ ws = refl
 
-looked : (p : Phase) (b : Bool) (o : Outcome) (ws : List ℕ) → asDid p (move (movedOf (cond b o (Refuses 6))) ws) ≡ cond b (did o ws) (did (Refuses 6) ws)
+looked : (p : Phase) (b : Bool) (o : Outcome) (ws : List ℕ) → asDid p (after (movedOf (cond b o (Refuses 6))) ws) ≡ cond b (did o ws) (did (Refuses 6) ws)
 unfolding asDid
 looked p b o ws = ap (λ (q : Outcome). did q ws) (outcome-back p (cond b o (Refuses 6))) ∙ did-cond b o (Refuses 6) ws
 
@@ -129,8 +129,7 @@ walk-moves : (ws : List ℕ) (kind : Kind) (key at prev before : ℕ) (side up :
     → asDid (Walk at prev before side up) (busyMove ws kind key (Walk at prev before side up)) ≡ busyStep ws kind key (Walk at prev before side up)
 unfolding busyMove busyStep actionAt plan readsFine actStep
 walk-moves ws kind key at prev before side up =
-    rw (any-work ws kind key at prev before side up)
-    (looked (Walk at prev before side up) (recordFine ws kind key (Walk at prev before side up) && pairFine ws at) (visit ws kind key at prev before side up) ws)
+    looked (Walk at prev before side up) (recordFine ws kind key (Walk at prev before side up) && pairFine ws at) (visit ws kind key at prev before side up) ws
 
 look-moves : (ws : List ℕ) (kind : Kind) (key this prev : ℕ) (side : Bool) (before : ℕ) (up : Bool)
     → asDid (Leaf this prev side before up) (busyMove ws kind key (Leaf this prev side before up)) ≡ busyStep ws kind key (Leaf this prev side before up)
@@ -161,7 +160,7 @@ pub step-moves : (ws : List ℕ) (work : Work) (key : ℕ) (p : Phase) → asDid
 unfolding asDid stepMove stepDid
 step-moves ws work key p = go (tableFine ws)
   where
-    go : (t : Bool) → asDid p (cond t (workMove ws work key p) (move (Stays 1) ws)) ≡ cond t (workStep ws work key p) (did (Refuses 1) ws)
+    go : (t : Bool) → asDid p (cond t (workMove ws work key p) (after (Stays 1) ws)) ≡ cond t (workStep ws work key p) (did (Refuses 1) ws)
     go true = work-moves ws work key p
     go false = refl
 

@@ -9,22 +9,23 @@ use Rattle.protocol.specs.Stores.{lowestFit, taken}
 use Rattle.protocol.specs.declared.Action.{Action}
 use Rattle.protocol.specs.declared.Action.the-variants.{Visit, Look, Lock, Mark, Link, Take, End, Beyond}
 use Rattle.protocol.specs.declared.Answer.the-variants.{Yes, Full}
-use Rattle.locks.specs.Acts.{Act, act, takeLock}
+use Rattle.locks.specs.Taking.{After, after, takeLock}
+use Rattle.locks.specs.declared.Acted.{Acted}
 use Rattle.locks.specs.declared.Acted.the-variants.{Done, Finished, Stopped}
 
 -- the lowest free slot f is taken, where there is one and it is zero
-unfoldable pub takes : List ℕ → ℕ → ℕ → Bool → ℕ → Act
+unfoldable pub takes : List ℕ → ℕ → ℕ → Bool → ℕ → After Acted
 takes ws key prev side f =
-    cond (eqb f 0) (act (Finished Full) ws)
-    (cond (zeroPair ws f) (act Done (setLink (taken ws f key) prev side f)) (act (Stopped 6) ws))
+    cond (eqb f 0) (after (Finished Full) ws)
+    (cond (zeroPair ws f) (after Done (setLink (taken ws f key) prev side f)) (after (Stopped 6) ws))
 
 -- what an action comes to by itself
-unfoldable pub actOn : List ℕ → ℕ → Action → Act
-actOn ws key (Visit at prev before side up) = act (Stopped 6) ws
-actOn ws key (Look this prev side before up) = act (Stopped 6) ws
+unfoldable pub actOn : List ℕ → ℕ → Action → After Acted
+actOn ws key (Visit at prev before side up) = after (Stopped 6) ws
+actOn ws key (Look this prev side before up) = after (Stopped 6) ws
 actOn ws key (Lock slot which write state links) = takeLock ws slot which write state links
-actOn ws key (Mark slot to) = act Done (setState ws slot to)
-actOn ws key (Link slot side to) = act Done (setLink ws slot side to)
+actOn ws key (Mark slot to) = after Done (setState ws slot to)
+actOn ws key (Link slot side to) = after Done (setLink ws slot side to)
 actOn ws key (Take prev side) = takes ws key prev side (lowestFit ws)
-actOn ws key End = act (Finished Yes) ws
-actOn ws key Beyond = act (Stopped 6) ws
+actOn ws key End = after (Finished Yes) ws
+actOn ws key Beyond = after (Stopped 6) ws

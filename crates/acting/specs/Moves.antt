@@ -1,7 +1,7 @@
 -- A step, as the code takes it apart: what the action comes to by itself, and what then becomes of the phase. A phase that goes
 -- on by the plan is not made anew: one more of its actions is done. `proofs/MoveLaws.antt` has that this is the protocol's step.
 -- Assumes nothing.
-use mathlib.Core.Bool.{Bool, true, cond, not, _&&_}
+use mathlib.Core.Bool.{cond, not, _&&_}
 use mathlib.Core.List.{List}
 use Prim.Native.Nat.{ℕ}
 use lib.Dec.{eqb}
@@ -14,7 +14,6 @@ use Rattle.protocol.specs.Locks.{Did, did, allHeld, released}
 use Rattle.protocol.specs.Walk.{visit, look}
 use Rattle.protocol.specs.Step.{readsFine}
 use Rattle.protocol.specs.declared.Kind.{Kind}
-use Rattle.protocol.specs.declared.Kind.the-variants.{Lookup}
 use Rattle.protocol.specs.declared.Work.{Work}
 use Rattle.protocol.specs.declared.Work.the-variants.{Idle, Busy}
 use Rattle.protocol.specs.declared.Phase.{Phase}
@@ -22,7 +21,7 @@ use Rattle.protocol.specs.declared.Phase.the-variants.{Walk, OnRouting, New, Tw
 use Rattle.protocol.specs.declared.Outcome.{Outcome}
 use Rattle.protocol.specs.declared.Outcome.the-variants.{Goes, Ends, Refuses}
 use Rattle.plan.specs.Due.{dueOf}
-use Rattle.locks.specs.Acts.{Act}
+use Rattle.locks.specs.Taking.{After, after}
 use Rattle.locks.specs.declared.Acted.{Acted}
 use Rattle.locks.specs.declared.Acted.the-variants.{Done, Denied, Finished, Stopped}
 use Rattle.acting.specs.Acts.{actOn}
@@ -30,12 +29,8 @@ use Rattle.acting.specs.declared.Moved.{Moved}
 use Rattle.acting.specs.declared.Moved.the-variants.{On, To, Over, Stays}
 
 -- what a step comes to, and the words after it
-pub record Move : Type 0 where
-  pub said : Moved
-  pub words : List ℕ
-
-abbrev pub move : Moved → List ℕ → Move
-move m ws = record { said = m; words = ws }
+abbrev pub Move : Type 0
+Move = After Moved
 
 -- the outcome that is told, in a phase
 abbrev pub outcomeOf : Phase → Moved → Outcome
@@ -53,50 +48,50 @@ movedOf (Goes p) = To p
 movedOf (Ends a) = Over a
 movedOf (Refuses n) = Stays n
 
--- what becomes of a work that gives up its locks: it is over, or begins again
+-- what becomes of a work that gives up its locks: one that is finished is over, any other begins again
 abbrev pub thenOf : Acted → Moved
 thenOf Done = To atRoot
 thenOf Denied = To atRoot
 thenOf (Finished a) = Over a
 thenOf (Stopped k) = To atRoot
 
-unfoldable pub leaves : List ℕ → Phase → ℕ → Moved → Move
-leaves ws p n then = cond (allHeld ws p n) (move then (released ws p n)) (move (Stays 6) ws)
+unfoldable pub leaves : List ℕ → Phase → Moved → Move
+leaves ws p then = cond (allHeld ws p (doneOf p)) (after then (released ws p (doneOf p))) (after (Stays 6) ws)
 
 -- what becomes of the phase after an action: one more is done, or the locks are given up, or nothing
 unfoldable pub settle : Phase → Acted → List ℕ → Move
-settle p Done ws = move On ws
-settle p Denied ws = leaves ws p (doneOf p) (thenOf Denied)
-settle p (Finished a) ws = leaves ws p (doneOf p) (thenOf (Finished a))
-settle p (Stopped k) ws = move (Stays k) ws
+settle p Done ws = after On ws
+settle p Denied ws = leaves ws p (thenOf Denied)
+settle p (Finished a) ws = leaves ws p (thenOf (Finished a))
+settle p (Stopped k) ws = after (Stays k) ws
 
-unfoldable pub settled : Phase → Act → Move
-settled p a = settle p (a .said) (a .words)
+unfoldable pub settleAct : Phase → After Acted → Move
+settleAct p a = settle p (a .said) (a .words)
 
 -- a phase that neither walks nor looks: rule 6 and the action that is due
 unfoldable pub planMove : List ℕ → Kind → ℕ → Phase → Move
 planMove ws kind key p =
     cond (legalOf key && not (eqb (busyOf ws) 0) && readsFine ws (dueOf (slotsOf ws) kind p))
-    (settled p (actOn ws key (dueOf (slotsOf ws) kind p)))
-    (move (Stays 6) ws)
+    (settleAct p (actOn ws key (dueOf (slotsOf ws) kind p)))
+    (after (Stays 6) ws)
 
 -- any phase
 unfoldable pub busyMove : List ℕ → Kind → ℕ → Phase → Move
 busyMove ws kind key (Walk at prev before side up) =
-    move (movedOf (cond (recordFine ws Lookup key (Walk at prev before true true) && pairFine ws at) (visit ws kind key at prev before side up) (Refuses 6))) ws
+    after (movedOf (cond (recordFine ws kind key (Walk at prev before side up) && pairFine ws at) (visit ws kind key at prev before side up) (Refuses 6))) ws
 busyMove ws kind key (OnRouting this done) = planMove ws kind key (OnRouting this done)
 busyMove ws kind key (New prev side done) = planMove ws kind key (New prev side done)
 busyMove ws kind key (Two this done) = planMove ws kind key (Two this done)
 busyMove ws kind key (One this prev side child toward done) = planMove ws kind key (One this prev side child toward done)
 busyMove ws kind key (Leaf this prev side before up) =
-    move (movedOf (cond (recordFine ws kind key (Leaf this prev side before up) && pairFine ws prev) (look ws this prev side before up) (Refuses 6))) ws
+    after (movedOf (cond (recordFine ws kind key (Leaf this prev side before up) && pairFine ws prev) (look ws this prev side before up) (Refuses 6))) ws
 busyMove ws kind key (UnderData this prev side done) = planMove ws kind key (UnderData this prev side done)
 busyMove ws kind key (UnderRouting this prev side before up other done) = planMove ws kind key (UnderRouting this prev side before up other done)
 
 -- rules 2 and 1
 unfoldable pub workMove : List ℕ → Work → ℕ → Phase → Move
-workMove ws Idle key p = move (Stays 2) ws
+workMove ws Idle key p = after (Stays 2) ws
 workMove ws (Busy kind) key p = busyMove ws kind key p
 
 unfoldable pub stepMove : List ℕ → Work → ℕ → Phase → Move
-stepMove ws work key p = cond (tableFine ws) (workMove ws work key p) (move (Stays 1) ws)
+stepMove ws work key p = cond (tableFine ws) (workMove ws work key p) (after (Stays 1) ws)

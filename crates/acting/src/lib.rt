@@ -1,7 +1,6 @@
 // What a step does in any phase: the rules, and the next action. The phase after it is told, not made: a step of the plan that
 // goes on only counts one more action.
 ghost use mathlib.Core.Path.{_≡_};
-ghost use Rattle.protocol.specs.Plan.{doneOf};
 ghost use Rattle.protocol.specs.Stores.{lowestFit};
 ghost use Rattle.protocol.specs.Step.{readsFine};
 ghost use Rattle.acting.specs.Acts.{takes, actOn};
@@ -72,7 +71,7 @@ fn act_on(words: &mut [u64], key: u64, a: Action) -> Acted
 
 // A work that is over or begins again gives up its locks.
 fn give_up(words: &mut [u64], phase: Phase, acted: Acted) -> Moved
-    ensures { λ r. ⌜ (r ≡ leaves (now (words .entry)) phase (doneOf phase) (thenOf acted) .said) × (now (words .exit) ≡ leaves (now (words .entry)) phase (doneOf phase) (thenOf acted) .words) ⌝ }
+    ensures { λ r. ⌜ (r ≡ leaves (now (words .entry)) phase (thenOf acted) .said) × (now (words .exit) ≡ leaves (now (words .entry)) phase (thenOf acted) .words) ⌝ }
 {
     let done = plan::done_of(phase);
     if !locks::give_up(words, phase, done) {
@@ -126,7 +125,7 @@ fn plan_step(words: &mut [u64], kind: Kind, key: u64, phase: Phase) -> Moved
     settle_on(words, phase, acted)
 }
 
-// The walk and the leaf's look, which make the phase anew.
+// What the walk or the leaf's look came to, as a move.
 fn move_of(o: Outcome) -> Moved
     ensures { λ r. ⌜ r ≡ movedOf o ⌝ }
 {

@@ -11,7 +11,7 @@ use Rattle.records.proofs.Counts.{counts-on}
 use Rattle.acting.specs.declared.Moved.{Moved}
 use Rattle.acting.specs.declared.Moved.the-variants.{On, To, Over, Stays}
 use Rattle.worker.specs.Moving.{leftBy, moveSays, moveWorker, moveOf}
-use Rattle.worker.proofs.MovingLaws.{told-says, told-worker, told-words, on-done}
+use Rattle.worker.proofs.MovingLaws.{told-as, on-done}
 use Rattle.calls.specs.Numbers.{verdictNumber}
 use Rattle.calls.specs.Workers.{callNumber, callRecord, callWords, putMoved}
 
@@ -27,8 +27,6 @@ pub moved-call : (ws s : List ℕ) (m : Moved) {n : ℕ} {s′ ws′ : List ℕ}
     → n ≡ verdictNumber (moveSays m) → s′ ≡ putMoved s (workerOf s .work) (workerOf s .key) m → ws′ ≡ leftBy m (moveOf ws (workerOf s) .words)
     → let c = stepOf ws (workerOf s) in (n ≡ callNumber verdictNumber ws s c) × (s′ ≡ callRecord s c) × (ws′ ≡ callWords ws s c)
 unfolding callNumber callRecord callWords
-moved-call ws s m r e n p q = let w = workerOf s in (
-  rw r (n ∙ ap verdictNumber (told-says ws w m e)),
-  rw r (p ∙ moved-words ws s m r e ∙ ap wordsOf (told-worker ws w m e)),
-  rw r (told-words ws _ w m e q),
-)
+moved-call ws s m r e n p q =
+    let t = told-as ws _ (workerOf s) m m e refl q in
+    (rw r (n ∙ ap verdictNumber (t .0)), rw r (p ∙ moved-words ws s m r e ∙ ap wordsOf (t .1)), rw r (t .2))

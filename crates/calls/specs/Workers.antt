@@ -32,7 +32,7 @@ Comes f ws s c number record-words table-words =
     (number ≡ callNumber f ws s c) × (record-words ≡ callRecord s c) × (table-words ≡ callWords ws s c)
 
 -- A step, put into the record's words as it is told: one count, another record, or nothing. `proofs/MovedCalls.antt` has that
--- these are the words of the record after the step
+-- these are the words of the record after the step.
 unfoldable pub putMoved : List ℕ → Work → ℕ → Moved → List ℕ
 putMoved s work key On = countOn s
 putMoved s work key (To p) = putRecord s (record { work = work; key = key; phase = p })

@@ -35,8 +35,8 @@ fn put_reply(lent: &mut [u64], r: Replied) -> u64
     numbers::of_reply(reply)
 }
 
-// The record is moved on in its words as the step tells; the number of its answer. A step of the plan that goes on, and one that
-// is refused, touch no other word.
+// The record is moved on in its words as the step tells; the number of its answer. A step of the plan that goes on writes one word,
+// a refused one none.
 fn put_moved(lent: &mut [u64], work: Work, key: u64, m: Moved) -> u64
     ensures { λ n. ⌜ (n ≡ verdictNumber (moveSays m)) × (now (lent .exit) ≡ putMoved (now (lent .entry)) work key m) ⌝ }
 {

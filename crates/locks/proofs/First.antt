@@ -1,64 +1,26 @@
--- A plan's locks come first: of the actions that are done, those after the locks hold nothing, and nothing is given up for them.
+-- A plan's locks come first, and `locksOf` is how many they are: so the actions done after them hold nothing, and nothing is given
+-- up for them.
 -- Assumes nothing.
 use mathlib.Core.Path.{_≡_, refl, sym, _∙_}
 use mathlib.Core.Bool.{Bool, true, false, cond, and-true}
 use mathlib.Core.List.{List, [], _∷_}
-use Prim.Native.Nat.{ℕ, zero, suc, _≤_}
+use Prim.Native.Nat.{ℕ, zero, suc, _≤_, _<_}
 use native.Mathlib.Omega.{arith}
 use native.Mathlib.Decide.{ℕ-discrete}
 use lib.Dec.{leb}
-use lib.ListN.{getD}
+use lib.ListN.{getD, length}
 use borrow.Author.Tests.{leb-false}
 use Rattle.protocol.specs.Plan.{plan, actionAt}
-use Rattle.protocol.specs.Locks.{heldOne, releaseOne, allHeld, released}
+use Rattle.protocol.specs.Locks.{allHeld, released}
 use Rattle.protocol.specs.declared.Phase.{Phase}
 use Rattle.protocol.specs.declared.Phase.the-variants.{Walk, OnRouting, New, Two, One, Leaf, UnderData, UnderRouting}
 use Rattle.protocol.specs.declared.Action.{Action}
-use Rattle.protocol.specs.declared.Action.the-variants.{Visit, Look, Lock, Mark, Link, Take, End, Beyond}
+use Rattle.protocol.specs.declared.Action.the-variants.{Beyond}
 use Rattle.plan.specs.First.{locksOf}
-use Rattle.locks.specs.Acts.{atMost}
-
--- an action that takes no lock
-abbrev Frees : Action → Type 0
-Frees (Visit at prev before side up) = Unit {0}
-Frees (Look this prev side before up) = Unit {0}
-Frees (Lock slot which write state links) = ⊥
-Frees (Mark slot to) = Unit {0}
-Frees (Link slot side to) = Unit {0}
-Frees (Take prev side) = Unit {0}
-Frees End = Unit {0}
-Frees Beyond = Unit {0}
-
-free-held : (ws : List ℕ) (a : Action) → Frees a → heldOne ws a ≡ true
-unfolding heldOne
-free-held ws (Visit at prev before side up) t = refl
-free-held ws (Look this prev side before up) t = refl
-free-held ws (Lock slot which write state links) t = absurd t
-free-held ws (Mark slot to) t = refl
-free-held ws (Link slot side to) t = refl
-free-held ws (Take prev side) t = refl
-free-held ws End t = refl
-free-held ws Beyond t = refl
-
-free-released : (ws : List ℕ) (a : Action) → Frees a → releaseOne ws a ≡ ws
-unfolding releaseOne
-free-released ws (Visit at prev before side up) t = refl
-free-released ws (Look this prev side before up) t = refl
-free-released ws (Lock slot which write state links) t = absurd t
-free-released ws (Mark slot to) t = refl
-free-released ws (Link slot side to) t = refl
-free-released ws (Take prev side) t = refl
-free-released ws End t = refl
-free-released ws Beyond t = refl
-
-abbrev All : List Action → Type 0
-All [] = Unit {0}
-All (a ∷ rest) = Frees a × All rest
-
-all-at : (l : List Action) → All l → (i : ℕ) → Frees (getD l i Beyond)
-all-at [] h i = tt
-all-at (a ∷ rest) h zero = h .0
-all-at (a ∷ rest) h (suc i) = all-at rest (h .1) i
+use Rattle.protocol.proofs.Together.Wishes.{All}
+use Rattle.plan.proofs.Actions.{all-at}
+use Rattle.locks.specs.Taking.{atMost}
+use Rattle.locks.proofs.Other.{Frees, free-held, free-released}
 
 -- a plan without its first n actions
 past : ℕ → List Action → List Action
@@ -66,14 +28,14 @@ past zero l = l
 past (suc n) [] = []
 past (suc n) (a ∷ rest) = past n rest
 
-past-at : (n : ℕ) (l : List Action) → All (past n l) → (i : ℕ) → n ≤ i → Frees (getD l i Beyond)
+past-at : (n : ℕ) (l : List Action) → All Frees (past n l) → (i : ℕ) → n ≤ i → Frees (getD l i Beyond)
 unfolding past
-past-at zero l h i e = all-at l h i
+past-at zero l h i e = all-at Frees tt l h i
 past-at (suc n) [] h i e = tt
 past-at (suc n) (a ∷ rest) h zero e = absurd (omega (arith, e))
 past-at (suc n) (a ∷ rest) h (suc i) e = past-at n rest h i (omega (arith, e))
 
-no-locks : (p : Phase) → All (past (locksOf p) (plan p))
+no-locks : (p : Phase) → All Frees (past (locksOf p) (plan p))
 unfolding past plan
 no-locks (Walk at prev before side up) = (tt, tt)
 no-locks (OnRouting this done) = (tt, (tt, tt))
@@ -84,7 +46,38 @@ no-locks (Leaf this prev side before up) = (tt, tt)
 no-locks (UnderData this prev side done) = (tt, (tt, (tt, tt)))
 no-locks (UnderRouting this prev side before up other done) = (tt, (tt, (tt, (tt, tt))))
 
-after-locks : (p : Phase) (i : ℕ) → locksOf p ≤ i → Frees (actionAt p i)
+-- EACH ACTION BEFORE THAT PLACE IS A LOCK, AND NONE AFTER
+upto : ℕ → List Action → List Action
+upto zero l = []
+upto (suc n) [] = []
+upto (suc n) (a ∷ rest) = a ∷ upto n rest
+
+abbrev Takes : Action → Type 0
+Takes a = Frees a → ⊥
+
+upto-at : (n : ℕ) (l : List Action) → All Takes (upto n l) → n ≤ length l → (i : ℕ) → i < n → Takes (getD l i Beyond)
+unfolding upto
+upto-at zero l h m i e = absurd (omega (arith, e))
+upto-at (suc n) [] h m i e = absurd (omega (arith, m))
+upto-at (suc n) (a ∷ rest) h m zero e = h .0
+upto-at (suc n) (a ∷ rest) h m (suc i) e = upto-at n rest (h .1) (omega (arith, m)) i (omega (arith, e))
+
+all-locks : (p : Phase) → All Takes (upto (locksOf p) (plan p)) × (locksOf p ≤ length (plan p))
+unfolding upto plan
+all-locks (Walk at prev before side up) = (tt, omega arith)
+all-locks (OnRouting this done) = ((λ t. t, tt), omega arith)
+all-locks (New prev side done) = ((λ t. t, (λ t. t, tt)), omega arith)
+all-locks (Two this done) = ((λ t. t, tt), omega arith)
+all-locks (One this prev side child toward done) = ((λ t. t, (λ t. t, (λ t. t, tt))), omega arith)
+all-locks (Leaf this prev side before up) = (tt, omega arith)
+all-locks (UnderData this prev side done) = ((λ t. t, (λ t. t, (λ t. t, tt))), omega arith)
+all-locks (UnderRouting this prev side before up other done) = ((λ t. t, (λ t. t, (λ t. t, (λ t. t, (λ t. t, tt))))), omega arith)
+
+pub before-stores : (p : Phase) (i : ℕ) → i < locksOf p → Frees (actionAt p i) → ⊥
+unfolding actionAt
+before-stores p i h = let a = all-locks p in upto-at (locksOf p) (plan p) (a .0) (a .1) i h
+
+pub after-locks : (p : Phase) (i : ℕ) → locksOf p ≤ i → Frees (actionAt p i)
 unfolding actionAt
 after-locks p i h = past-at (locksOf p) (plan p) (no-locks p) i h
 
@@ -104,6 +97,7 @@ beyond-locks ws p (suc n) h = go (ℕ-discrete (locksOf p) (suc n)) (beyond-lock
         let f = after-locks p n l in
         (r l .0 ∙ sym (rw (free-held ws (actionAt p n) f) (and-true (allHeld ws p n))), r l .1 ∙ sym (free-released (released ws p n) (actionAt p n) f))
 
+-- SO GIVING UP NEED NOT ASK FOR MORE
 pub locks-first : (ws : List ℕ) (p : Phase) (n : ℕ) → Same ws p (atMost n (locksOf p)) n
 locks-first ws p n = go (leb n (locksOf p)) refl
   where

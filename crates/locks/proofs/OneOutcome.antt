@@ -8,7 +8,7 @@ use Rattle.table.specs.declared.Which.{Which}
 use Rattle.protocol.specs.Locks.{allHeld, released}
 use Rattle.protocol.specs.declared.Phase.{Phase}
 use Rattle.protocol.specs.declared.Links.{Links}
-use Rattle.locks.specs.Acts.{takeLock, givenUp}
+use Rattle.locks.specs.Taking.{takeLock, givenUp}
 use Rattle.locks.specs.declared.Acted.{Acted}
 
 pub all-held-one : (ws : List ℕ) (phase : Phase) (done : ℕ) (a b : Bool) → a ≡ allHeld ws phase done → b ≡ allHeld ws phase done → a ≡ b

@@ -1,9 +1,9 @@
-// Locks: taking one, and giving up all that are held. Each function takes any words and any phase, and promises the
-// protocol's definition.
+// Locks: taking one, and giving up all that are held. Each function takes any words and any numbers, and promises the protocol's
+// definition, or its part before a phase is settled (specs/Taking.antt).
 ghost use mathlib.Core.Path.{_≡_};
-ghost use Prim.Native.Nat.{ℕ, _-_};
+ghost use Prim.Native.Nat.{_-_};
 ghost use Rattle.protocol.specs.Locks.{stateFits, linksFit, clear, holds, weight, crowded, granted, heldOne, releaseOne, allHeld, released};
-ghost use Rattle.locks.specs.Acts.{atMost, givenUp, takeLock};
+ghost use Rattle.locks.specs.Taking.{atMost, givenUp, takeLock};
 use plan::PRESENT;
 use protocol::Action;
 use protocol::Answer;

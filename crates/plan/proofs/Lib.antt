@@ -1,3 +1,4 @@
+pub mod Actions
 pub mod DueLaws
 pub mod LiftLaws
 pub mod RoleLaws

@@ -3,7 +3,7 @@
 -- Assumes nothing.
 use mathlib.Core.Bool.{cond}
 use Prim.Native.Nat.{ℕ}
-use Rattle.protocol.specs.Plan.{actionAt}
+use Rattle.protocol.specs.Plan.{actionOf}
 use Rattle.protocol.specs.Record.{roles}
 use Rattle.protocol.specs.declared.Kind.{Kind}
 use Rattle.protocol.specs.declared.Phase.{Phase}
@@ -11,15 +11,15 @@ use Rattle.protocol.specs.declared.Phase.the-variants.{Walk, OnRouting, New, Tw
 use Rattle.protocol.specs.declared.Action.{Action}
 use Rattle.protocol.specs.declared.Action.the-variants.{Beyond}
 
-unfoldable pub dueAt : ℕ → Kind → Phase → ℕ → Action
-dueAt n kind p done = cond (roles n kind p) (actionAt p done) Beyond
+unfoldable pub dueAt : ℕ → Kind → Phase → Action
+dueAt n kind p = cond (roles n kind p) (actionOf p) Beyond
 
 unfoldable pub dueOf : ℕ → Kind → Phase → Action
 dueOf n kind (Walk at prev before side up) = Beyond
-dueOf n kind (OnRouting this done) = dueAt n kind (OnRouting this done) done
-dueOf n kind (New prev side done) = dueAt n kind (New prev side done) done
-dueOf n kind (Two this done) = dueAt n kind (Two this done) done
-dueOf n kind (One this prev side child toward done) = dueAt n kind (One this prev side child toward done) done
+dueOf n kind (OnRouting this done) = dueAt n kind (OnRouting this done)
+dueOf n kind (New prev side done) = dueAt n kind (New prev side done)
+dueOf n kind (Two this done) = dueAt n kind (Two this done)
+dueOf n kind (One this prev side child toward done) = dueAt n kind (One this prev side child toward done)
 dueOf n kind (Leaf this prev side before up) = Beyond
-dueOf n kind (UnderData this prev side done) = dueAt n kind (UnderData this prev side done) done
-dueOf n kind (UnderRouting this prev side before up other done) = dueAt n kind (UnderRouting this prev side before up other done) done
+dueOf n kind (UnderData this prev side done) = dueAt n kind (UnderData this prev side done)
+dueOf n kind (UnderRouting this prev side before up other done) = dueAt n kind (UnderRouting this prev side before up other done)

@@ -1,4 +1,5 @@
--- How many locks a case takes. They come first in its plan: `locks/proofs/First.antt` has that no later action holds one.
+-- How many locks a case takes. They come first in its plan: `locks/proofs/First.antt` has that so many actions are locks, and no
+-- later one.
 -- Assumes nothing.
 use Prim.Native.Nat.{ℕ}
 use Rattle.protocol.specs.declared.Phase.{Phase}

@@ -1,5 +1,5 @@
 // The action that is due, of a phase that is taken apart once: its roles are judged, and its action found, by its
-// numbers. The phases that `_` leaves walk, look or are of another kind of work: of these none is due.
+// numbers. What `_` leaves: phases that walk, that look, or that are of another kind of work; of these none is due.
 ghost use mathlib.Core.Path.{_≡_};
 ghost use mathlib.Core.Bool.{cond};
 ghost use Rattle.protocol.specs.declared.Kind.the-variants.{Insert, Remove};

@@ -1,5 +1,5 @@
 // The plan in code: the action at each place of each case, the count of actions done, and the rules of a record. Each
-// promises the protocol's definition.
+// promises the protocol's definition, or one of specs/ that is made of these.
 ghost use mathlib.Core.Path.{_≡_};
 ghost use mathlib.Core.Bool.{true};
 ghost use Rattle.protocol.specs.Plan.{atRoot, actionAt, doneOf, withDone, isStore};

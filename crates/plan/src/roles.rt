@@ -1,6 +1,6 @@
 // The rules of a busy record: a phase of that kind of work that names no slot beyond n, none in two roles, and lacks
-// none. The test of a phase that counts its actions is a function of its numbers: who has taken the phase apart asks it
-// without the phase. A kind's phases are judged by one function each; what no kind has of its own, the walk, stands in
+// none. The test of a phase that counts its actions is a function of its numbers: whoever has taken the phase apart asks
+// it without the phase. A kind's phases are judged by one function each; what no kind has of its own, the walk, stands in
 // `lookup_roles`.
 ghost use mathlib.Core.Path.{_≡_};
 ghost use mathlib.Core.Bool.{true};

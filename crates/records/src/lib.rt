@@ -253,7 +253,7 @@ pub fn walk_on(s: &mut [u64], next: u64, left: bool)
 
 // A phase of the plan that goes on
 
-// Counts one more action as done. Nothing where the words are not eleven, walk or look, or count nine.
+// Counts one more action as done. Nothing where the words are not eleven, walk or look, or count nine or more.
 pub fn count_on(s: &mut [u64])
     ensures { λ _. ⌜ now (s .exit) ≡ countOn (now (s .entry)) ⌝ }
 {

@@ -8,7 +8,7 @@ use denote.Enum.Declared.{tagOf}
 use Rattle.protocol.specs.Says.{Verdict}
 use Rattle.protocol.specs.Plan.{doneOf, nextOf}
 use Rattle.protocol.specs.Locks.{Did}
-use Rattle.protocol.specs.Step.{Call, stepDid, settled, stepOf}
+use Rattle.protocol.specs.Step.{Call, settled, stepOf}
 use Rattle.protocol.specs.declared.Worker.{Worker}
 use Rattle.acting.specs.Moves.{outcomeOf, asDid}
 use Rattle.acting.proofs.Moved.{the-type}
@@ -33,18 +33,17 @@ step-told ws w =
     ap (λ (d : Did). settled w (d .said) (d .words)) (sym (step-moves ws (w .work) (w .key) (w .phase)))
     ∙ settled-told w (moveOf ws w .said) (moveOf ws w .words)
 
--- by what comes out: what it says, the record and the words
-pub told-says : (ws : List ℕ) (w : Worker) (m : Moved) → m ≡ moveOf ws w .said → moveSays m ≡ stepOf ws w .says
+-- A STEP THAT IS TOLD SAYS WHAT THE PROTOCOL'S SAYS, AND LEAVES ITS RECORD AND ITS WORDS; x is what a `match` finds it to be
+pub told-as : (ws vs : List ℕ) (w : Worker) (m x : Moved) → m ≡ moveOf ws w .said → m ≡ x → vs ≡ leftBy m (moveOf ws w .words)
+    → (moveSays x ≡ stepOf ws w .says) × (moveWorker w x ≡ stepOf ws w .worker) × (vs ≡ stepOf ws w .words)
 unfolding told
-told-says ws w m e = ap moveSays e ∙ ap (λ (c : Call Verdict). c .says) (sym (step-told ws w))
-
-pub told-worker : (ws : List ℕ) (w : Worker) (m : Moved) → m ≡ moveOf ws w .said → moveWorker w m ≡ stepOf ws w .worker
-unfolding told
-told-worker ws w m e = ap (moveWorker w) e ∙ ap (λ (c : Call Verdict). c .worker) (sym (step-told ws w))
-
-pub told-words : (ws vs : List ℕ) (w : Worker) (m : Moved) → m ≡ moveOf ws w .said → vs ≡ leftBy m (moveOf ws w .words) → vs ≡ stepOf ws w .words
-unfolding told
-told-words ws vs w m e q = q ∙ ap (λ (x : Moved). leftBy x (moveOf ws w .words)) e ∙ ap (λ (c : Call Verdict). c .words) (sym (step-told ws w))
+told-as ws vs w m x e g q =
+    let c = sym (step-told ws w) in
+    let f = sym g ∙ e in (
+      ap moveSays f ∙ ap (λ (d : Call Verdict). d .says) c,
+      ap (moveWorker w) f ∙ ap (λ (d : Call Verdict). d .worker) c,
+      q ∙ ap (λ (y : Moved). leftBy y (moveOf ws w .words)) e ∙ ap (λ (d : Call Verdict). d .words) c,
+    )
 
 -- fewer than nine
 pub on-done : (ws : List ℕ) (w : Worker) → On ≡ moveOf ws w .said → doneOf (w .phase) < 9

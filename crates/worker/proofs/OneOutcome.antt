@@ -1,4 +1,4 @@
--- For every input the promises of `next_slot` and `move_on` leave one answer and one content of the words; `start`, `step` and
+-- For every input the promises of `next_slot`, `move_on` and `idle_worker` leave one answer and one content of the words; `start`, `step` and
 -- `withdraw` have theirs in protocol/proofs/AnswerLaws.antt.
 -- Assumes nothing.
 use mathlib.Core.Path.{_≡_, sym, ap, _∙_}
@@ -13,6 +13,8 @@ use Rattle.protocol.specs.declared.Kind.the-variants.{Lookup}
 use Rattle.protocol.specs.declared.Work.{Work}
 use Rattle.protocol.specs.declared.Phase.{Phase}
 use Rattle.protocol.specs.declared.Phase.the-variants.{Walk}
+use Rattle.protocol.specs.Step.{idleWorker}
+use Rattle.protocol.specs.declared.Worker.{Worker}
 use Rattle.acting.specs.Moves.{stepMove}
 use Rattle.acting.specs.declared.Moved.{Moved}
 use Rattle.worker.specs.Moving.{leftBy}
@@ -31,3 +33,6 @@ pub move-on-one : (ws : List ℕ) (work : Work) (key : ℕ) (phase : Phase) (a b
     (a ≡ m .said) × (x ≡ leftBy a (m .words)) → (b ≡ m .said) × (y ≡ leftBy b (m .words)) → (a ≡ b) × (x ≡ y)
 move-on-one ws work key phase a b x y p q = let e = p .0 ∙ sym (q .0) in
     (e, p .1 ∙ ap (λ (z : Moved). leftBy z (stepMove ws work key phase .words)) e ∙ sym (q .1))
+
+pub idle-worker-one : (a b : Worker) → a ≡ idleWorker → b ≡ idleWorker → a ≡ b
+idle-worker-one a b p q = p ∙ sym q

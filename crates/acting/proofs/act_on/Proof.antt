@@ -1,5 +1,6 @@
 use mathlib.Core.Path.{ap}
-use Rattle.locks.specs.Acts.{Act}
+use Rattle.locks.specs.Taking.{After}
+use Rattle.locks.specs.declared.Acted.{Acted}
 use Rattle.acting.specs.Acts.{actOn}
 use Rattle.acting.proofs.ActLaws.{act-other}
 use borrow.Author.Needs.{needs}
@@ -68,7 +69,7 @@ returns-5 c = (rw (c .enum-told .given .1), rw (c .enum-told .given .1))
 returns-6 : tie.Need-returns-6
 returns-6 c = let a = c .before .before .args in
     let e = act-other (a .words .now) (a .key) (a .a) (c .match .keys6) in
-    (ap (λ (d : Act). d .said) e, ap (λ (d : Act). d .words) e)
+    (ap (λ (d : After Acted). d .said) e, ap (λ (d : After Acted). d .words) e)
 
 pub act-on-spec : {M : Type 1} → statement M
 act-on-spec = tie.close (tie.spec enum-known-a take-lock-requires enum-known-a-2 set-state-requires enum-known-a-3 set-link-requires enum-known-a-4 take-requires enum-told same-length returns same-length-2 returns-2 same-length-3 returns-3 same-length-4 returns-4 returns-5 returns-6)

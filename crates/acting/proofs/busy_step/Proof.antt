@@ -1,6 +1,6 @@
 use mathlib.Core.Path.{ap, _∙_}
 use Rattle.acting.specs.Moves.{Move, busyMove}
-use Rattle.acting.proofs.ActLaws.{move-other}
+use Rattle.acting.proofs.ActLaws.{any-work, move-other}
 use borrow.Author.Needs.{needs}
 use Rattle.acting.proofs.busy_step.Statement.{statement}
 use Rattle.acting.proofs.busy_step.Tie as tie
@@ -31,8 +31,12 @@ same-length c = search needs
 
 returns : tie.Need-returns
 unfolding busyMove
-returns c = let v = c .before .before .before .before .phase .given .1 in
-    (rw v (rw (c .before .visit-at .ensures) at (c .move-of .ensures)), rw v)
+returns c = let h = c .before .before .before .before in
+    let a = h .before .before .before .args in
+    let v = h .phase .given .1 in
+    let q = h .phase .given .0 in
+    let e = any-work (a .words .now) (a .kind) (a .key) (q .0) (q .1 .0) (q .1 .1 .0) (q .1 .1 .1 .0) (q .1 .1 .1 .1 .0) in
+    (rw (v, ← e) (rw (c .before .visit-at .ensures) at (c .move-of .ensures)), rw v)
 
 same-length-2 : tie.Need-same-length-2
 same-length-2 c = search needs

@@ -1,6 +1,6 @@
 use mathlib.Core.Path.{sym, _∙_}
 use borrow.Author.Tests.{not-true, not-false}
-use Rattle.locks.specs.Acts.{givenUp}
+use Rattle.locks.specs.Taking.{givenUp}
 use Rattle.acting.specs.Moves.{leaves}
 use Rattle.acting.proofs.ActLaws.{then-other}
 use borrow.Author.Needs.{needs}

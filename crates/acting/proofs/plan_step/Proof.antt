@@ -2,7 +2,7 @@ use mathlib.Core.Path.{sym, _∙_}
 use mathlib.Core.Bool.{not, _&&_}
 use lib.Dec.{eqb}
 use borrow.Author.Tests.{not-true, not-false}
-use Rattle.acting.specs.Moves.{planMove, settled}
+use Rattle.acting.specs.Moves.{planMove, settleAct}
 use borrow.Author.Needs.{needs}
 use Rattle.acting.proofs.plan_step.Statement.{statement}
 use Rattle.acting.proofs.plan_step.Tie as tie
@@ -54,7 +54,7 @@ same-length-3 : tie.Need-same-length-3
 same-length-3 c = search needs
 
 returns-3 : tie.Need-returns-3
-unfolding planMove settled
+unfolding planMove settleAct
 returns-3 c = let s = c .before .before in
     let o = s .before .before .before .before in
     let e = o .before .before in

@@ -2,7 +2,7 @@ use mathlib.Core.Path.{_≡_, sym, _∙_}
 use mathlib.Core.Bool.{true, false}
 use borrow.Author.Tests.{not-true, not-false}
 use Rattle.protocol.specs.Locks.{allHeld}
-use Rattle.locks.specs.Acts.{givenUp}
+use Rattle.locks.specs.Taking.{givenUp}
 use Rattle.locks.proofs.First.{locks-first}
 use borrow.Author.Needs.{needs}
 use Rattle.locks.proofs.give_up.Statement.{statement}

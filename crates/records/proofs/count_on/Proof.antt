@@ -1,9 +1,5 @@
-use mathlib.Core.Bool.{true, not, _&&_}
-use mathlib.Core.Path.{_≡_}
 use native.Mathlib.Omega.{arith}
-use lib.Dec.{eqb, ltb}
-use lib.ListN.{getD}
-use borrow.Author.Tests.{eq-eqb, ne-eqb, ltb-true}
+use borrow.Author.Tests.{eq-eqb, ne-eqb}
 use Rattle.moment.proofs.Tests.{tests}
 use Rattle.records.specs.Records.{countOn}
 use borrow.Author.Needs.{needs}

@@ -1,6 +1,6 @@
 use mathlib.Core.Path.{sym, _∙_}
 use native.Mathlib.Omega.{arith}
-use Rattle.worker.proofs.MovingLaws.{told-says, told-worker, told-words, on-done}
+use Rattle.worker.proofs.MovingLaws.{told-as, on-done}
 use borrow.Author.Needs.{needs}
 use Rattle.worker.proofs.step.Statement.{statement}
 use Rattle.worker.proofs.step.Tie as tie
@@ -42,20 +42,16 @@ returns : tie.Need-returns
 returns c = let t = c .before .before in
     let o = t .before .before .before .before in
     let a = o .before .before .before .args in
-    let m = o .move-on .ensures in
-    let e = sym (t .enum-told .given .1) ∙ m .0 in
-    (told-says (a .words .now) (a .w) _ e, rw (c .with-done .ensures, c .before .done-of .ensures) (told-worker (a .words .now) (a .w) _ e), told-words (a .words .now) _ (a .w) _ (m .0) (m .1))
+    let r = told-as (a .words .now) _ (a .w) _ _ (o .move-on .ensures .0) (t .enum-told .given .1) (o .move-on .ensures .1) in
+    (r .0, rw (c .with-done .ensures, c .before .done-of .ensures) (r .1), r .2)
 
 same-length-2 : tie.Need-same-length-2
 same-length-2 c = search needs
 
 returns-2 : tie.Need-returns-2
-returns-2 c = let t = c .before in
-    let o = t .before .before .before .before in
+returns-2 c = let o = c .before .before .before .before .before in
     let a = o .before .before .before .args in
-    let m = o .move-on .ensures in
-    let e = sym (t .m .given .1) ∙ m .0 in
-    (told-says (a .words .now) (a .w) _ e, told-worker (a .words .now) (a .w) _ e, told-words (a .words .now) _ (a .w) _ (m .0) (m .1))
+    told-as (a .words .now) _ (a .w) _ _ (o .move-on .ensures .0) (c .before .m .given .1) (o .move-on .ensures .1)
 
 same-length-3 : tie.Need-same-length-3
 same-length-3 c = search needs
@@ -64,20 +60,16 @@ returns-3 : tie.Need-returns-3
 returns-3 c = let t = c .before .before in
     let o = t .before .before .before .before in
     let a = o .before .before .before .args in
-    let m = o .move-on .ensures in
-    let e = sym (t .m2 .given .1) ∙ m .0 in
-    (told-says (a .words .now) (a .w) _ e, c .idle-worker .ensures ∙ told-worker (a .words .now) (a .w) _ e, told-words (a .words .now) _ (a .w) _ (m .0) (m .1))
+    let r = told-as (a .words .now) _ (a .w) _ _ (o .move-on .ensures .0) (t .m2 .given .1) (o .move-on .ensures .1) in
+    (r .0, c .idle-worker .ensures ∙ r .1, r .2)
 
 same-length-4 : tie.Need-same-length-4
 same-length-4 c = search needs
 
 returns-4 : tie.Need-returns-4
-returns-4 c = let t = c .before in
-    let o = t .before .before .before .before in
+returns-4 c = let o = c .before .before .before .before .before in
     let a = o .before .before .before .args in
-    let m = o .move-on .ensures in
-    let e = sym (t .m3 .given .1) ∙ m .0 in
-    (told-says (a .words .now) (a .w) _ e, told-worker (a .words .now) (a .w) _ e, told-words (a .words .now) _ (a .w) _ (m .0) (m .1))
+    told-as (a .words .now) _ (a .w) _ _ (o .move-on .ensures .0) (c .before .m3 .given .1) (o .move-on .ensures .1)
 
 pub step-spec : {M : Type 1} → statement M
 step-spec = tie.close (tie.spec move-on-requires enum-told done-of-requires add-with-done with-done-requires enum-known-m enum-known-m-2 idle-worker-requires enum-known-m-3 same-length returns same-length-2 returns-2 same-length-3 returns-3 same-length-4 returns-4)

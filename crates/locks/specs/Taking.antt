@@ -1,5 +1,5 @@
--- What an action comes to by itself, before it is settled what becomes of the phase: `lockStep` without its phases.
--- `acting/proofs/ActLaws.antt` has that, settled, it is the protocol's.
+-- A lock that is asked for, and locks given up, before it is settled what becomes of the phase: `lockStep` and `giveUp` without
+-- their phases. `acting/proofs/MoveLaws.antt` has that, settled, a step is the protocol's.
 -- Assumes nothing.
 use mathlib.Core.Bool.{Bool, cond}
 use mathlib.Core.List.{List}
@@ -13,22 +13,22 @@ use Rattle.protocol.specs.declared.Links.{Links}
 use Rattle.locks.specs.declared.Acted.{Acted}
 use Rattle.locks.specs.declared.Acted.the-variants.{Done, Denied, Stopped}
 
--- what it says, and the words after it
-pub record Act : Type 0 where
-  pub said : Acted
+-- what is said, and the words after it
+pub record After (A : Type 0) : Type 0 where
+  pub said : A
   pub words : List ℕ
 
-abbrev pub act : Acted → List ℕ → Act
-act a ws = record { said = a; words = ws }
+abbrev pub after : {A : Type 0} → A → List ℕ → After A
+after a ws = record { said = a; words = ws }
 
 -- a lock that is asked for
-unfoldable pub takeLock : List ℕ → ℕ → Which → Bool → ℕ → Links → Act
+unfoldable pub takeLock : List ℕ → ℕ → Which → Bool → ℕ → Links → After Acted
 takeLock ws slot which write state links =
     cond (granted ws slot which write state links)
     (cond (crowded write (lockOf ws slot which))
-    (act (Stopped 9) ws)
-    (act Done (setLock ws slot which (lockOf ws slot which + weight write))))
-    (act Denied ws)
+    (after (Stopped 9) ws)
+    (after Done (setLock ws slot which (lockOf ws slot which + weight write))))
+    (after Denied ws)
 
 -- a number, or the most that it may be
 abbrev pub atMost : ℕ → ℕ → ℕ

@@ -50,6 +50,19 @@ impl Works for Library {
     }
 }
 
+/// What a step written by hand answers.
+const GOING: u64 = 0;
+const FULL: u64 = 5;
+const YES: u64 = 16;
+const NO: u64 = 17;
+
+/// The end of a work written by hand: the seat is given up, and the record is idle.
+fn over<R>(record: &mut R, idle: R, words: &mut [u64], answer: u64) -> u64 {
+    words[1] -= 1 << 19;
+    *record = idle;
+    answer
+}
+
 /// A record that code written by hand keeps in place.
 trait ByHand {
     fn begin(&mut self, words: &mut [u64], work: u64, key: u64);
@@ -62,7 +75,7 @@ impl ByHand for Plain {
         self.start(words, work, key);
     }
     fn goes(&mut self, words: &mut [u64]) -> bool {
-        self.step(words) == plain::GOING
+        self.step(words) == GOING
     }
 }
 
@@ -71,7 +84,7 @@ impl ByHand for Judged {
         self.start(words, work, key);
     }
     fn goes(&mut self, words: &mut [u64]) -> bool {
-        self.step(words) == judged::GOING
+        self.step(words) == GOING
     }
 }
 

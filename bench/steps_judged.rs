@@ -5,15 +5,11 @@
 #[path = "steps_rules.rs"]
 mod rules;
 
+use super::{over, FULL, GOING, NO, YES};
 use rules::{damaged, distinct, give_up, legal, link, lock, rule_1, set, state, word, Lock, DATA, FREE, LINK, LOCK};
 
 const ROUTING: u64 = 2;
 const DELETED: u64 = 3;
-
-pub const GOING: u64 = 0;
-pub const FULL: u64 = 5;
-pub const YES: u64 = 16;
-pub const NO: u64 = 17;
 
 const INSERT: u64 = 2;
 const REMOVE: u64 = 3;
@@ -123,12 +119,6 @@ impl Judged {
         GOING
     }
 
-    fn ends(&mut self, words: &mut [u64], answer: u64) -> u64 {
-        words[1] -= 1 << 19;
-        *self = IDLE;
-        answer
-    }
-
     fn walk(&mut self, words: &mut [u64]) -> u64 {
         let at = self.this;
         if damaged(words, at) {
@@ -146,7 +136,7 @@ impl Judged {
             return GOING;
         }
         if self.work != INSERT {
-            return self.ends(words, NO);
+            return over(self, IDLE, words, NO);
         }
         *self = Judged { work: INSERT, key: self.key, phase: NEW, prev: at, side, ..IDLE };
         GOING
@@ -155,7 +145,7 @@ impl Judged {
     fn found(&mut self, words: &mut [u64], at: u64) -> u64 {
         let Judged { work, key, prev, side, .. } = *self;
         match (work, state(words, at)) {
-            (1, DATA) => return self.ends(words, YES),
+            (1, DATA) => return over(self, IDLE, words, YES),
             (INSERT, DELETED) => return self.restart(),
             (INSERT, ROUTING) => *self = Judged { work, key, phase: ON_ROUTING, this: at, ..IDLE },
             (REMOVE, DATA) => match (link(words, at, 0), link(words, at, 1)) {
@@ -164,7 +154,7 @@ impl Judged {
                 (other, 0) => *self = Judged { work, key, phase: ONE, this: at, prev, side, other, ..IDLE },
                 _ => *self = Judged { work, key, phase: TWO, this: at, ..IDLE },
             },
-            _ => return self.ends(words, NO),
+            _ => return over(self, IDLE, words, NO),
         }
         GOING
     }
@@ -225,7 +215,7 @@ impl Judged {
             return 6;
         }
         let Some(free) = (1..words.len() as u64 / 2).find(|i| state(words, *i) == FREE) else {
-            return if give_up(words, locks) { self.ends(words, FULL) } else { 6 };
+            return if give_up(words, locks) { over(self, IDLE, words, FULL) } else { 6 };
         };
         if words[2 * free as usize] != 0 || word(words, free) != 0 {
             return 6;
@@ -255,7 +245,7 @@ impl Judged {
             (7, 1) => (prev, 62, 2, DELETED),
             (7, 2) => (before, up, 10, other),
             (ON_ROUTING | NEW | TWO, 1) | (ONE | UNDER_DATA, 2) | (7, 3) => {
-                return if give_up(words, locks) { self.ends(words, YES) } else { 6 };
+                return if give_up(words, locks) { over(self, IDLE, words, YES) } else { 6 };
             }
             _ => return 6,
         };

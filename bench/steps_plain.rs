@@ -1,6 +1,8 @@
 // The same steps on the same words, as one would write them in Rust: no proof, and nothing judged. A table or a record that
 // is damaged makes it panic or go astray. Only for comparison; bench/steps.rs checks that it leaves the same words.
 
+use super::{over, FULL, GOING, NO, YES};
+
 const FREE: u64 = 0;
 const DATA: u64 = 1;
 const ROUTING: u64 = 2;
@@ -8,11 +10,6 @@ const DELETED: u64 = 3;
 
 const LINK: [u32; 2] = [52, 42];
 const LOCK: [u32; 3] = [36, 30, 24];
-
-pub const GOING: u64 = 0;
-pub const FULL: u64 = 5;
-pub const YES: u64 = 16;
-pub const NO: u64 = 17;
 
 #[derive(Clone, Copy)]
 pub enum Phase {
@@ -108,12 +105,6 @@ impl Plain {
         GOING
     }
 
-    fn ends(&mut self, words: &mut [u64], answer: u64) -> u64 {
-        words[1] -= 1 << 19;
-        *self = IDLE;
-        answer
-    }
-
     fn walk(&mut self, words: &mut [u64]) -> u64 {
         let at = self.this;
         let key = words[2 * at];
@@ -127,7 +118,7 @@ impl Plain {
             return GOING;
         }
         if self.work != 2 {
-            return self.ends(words, NO);
+            return over(self, IDLE, words, NO);
         }
         *self = Plain { phase: Phase::New(0), this: 0, prev: at, side, before: 0, up: 0, ..*self };
         GOING
@@ -135,7 +126,7 @@ impl Plain {
 
     fn found(&mut self, words: &mut [u64], at: usize) -> u64 {
         match (self.work, state(words, at)) {
-            (1, DATA) => self.ends(words, YES),
+            (1, DATA) => over(self, IDLE, words, YES),
             (2, DELETED) => self.restart(),
             (2, ROUTING) => {
                 self.phase = Phase::OnRouting(0);
@@ -152,7 +143,7 @@ impl Plain {
                 self.other = l | r;
                 GOING
             }
-            _ => self.ends(words, NO),
+            _ => over(self, IDLE, words, NO),
         }
     }
 
@@ -215,7 +206,7 @@ impl Plain {
             (Phase::UnderRouting(_), 2) => set_link(words, self.before, self.up, self.other),
             _ => {
                 self.give_up(words, count);
-                return self.ends(words, YES);
+                return over(self, IDLE, words, YES);
             }
         }
         GOING
@@ -224,7 +215,7 @@ impl Plain {
     fn new_slot(&mut self, words: &mut [u64]) -> u64 {
         let Some(free) = (1..words.len() / 2).find(|i| state(words, *i) == FREE) else {
             self.give_up(words, 2);
-            return self.ends(words, FULL);
+            return over(self, IDLE, words, FULL);
         };
         words[2 * free] = self.key;
         words[2 * free + 1] = DATA << 62;

@@ -1,16 +1,15 @@
 -- Laws of the folds over the plan (locks held, locks given up, stores done), and of the search for a slot: one more, none.
 -- Assumes nothing.
-use mathlib.Core.Path.{_≡_, refl, ap}
-use mathlib.Core.Bool.{Bool, true, false, cond, _&&_, _||_}
+use mathlib.Core.Path.{_≡_, refl}
+use mathlib.Core.Bool.{Bool, true, false, _&&_, _||_}
 use mathlib.Core.List.{List}
-use Prim.Native.Nat.{ℕ, zero, suc, _+_, _-_, _<_}
+use Prim.Native.Nat.{ℕ, suc, _+_, _<_}
 use native.Mathlib.Omega.{arith}
 use native.Mathlib.Numerals.{add-one}
-use Rattle.table.specs.Free as Free
-use Rattle.table.specs.Pair.{slotsOf}
+use Rattle.table.specs.Free.{lowestFree}
 use Rattle.protocol.specs.Plan.{actionAt, isStore}
 use Rattle.protocol.specs.Locks.{weight, heldOne, releaseOne, allHeld, released}
-use Rattle.protocol.specs.Stores.{fit, fitFrom, lowestFit}
+use Rattle.protocol.specs.Stores.{fit, lowestFit}
 use Rattle.protocol.specs.Calls.{stored}
 use Rattle.protocol.specs.declared.Phase.{Phase}
 
@@ -43,11 +42,6 @@ weight-lt true = omega arith
 weight-lt false = omega arith
 
 -- the lowest free slot, as the table's search finds it
-free-same : (ws : List ℕ) (i n : ℕ) → Free.fitFrom ws i n ≡ fitFrom ws i n
-unfolding Free.fitFrom Free.fit fitFrom fit
-free-same ws i zero = refl
-free-same ws i (suc n) = ap (cond (fit ws i) i) (free-same ws (suc i) n)
-
-pub lowest-free : (ws : List ℕ) → Free.lowestFit ws ≡ lowestFit ws
-unfolding Free.lowestFit lowestFit
-lowest-free ws = free-same ws 1 (slotsOf ws - 1)
+pub lowest-free : (ws : List ℕ) → lowestFree ws ≡ lowestFit ws
+unfolding lowestFree lowestFit fit
+lowest-free ws = refl

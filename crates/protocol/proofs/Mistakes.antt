@@ -9,6 +9,7 @@ use native.Mathlib.Omega.{arith}
 use native.Mathlib.Decide.{decLt}
 use borrow.Author.Tests.{eqb-true, eqb-false, eq-eqb, ne-eqb, not-true}
 use Rattle.moment.proofs.Tests.{tests}
+use Rattle.table.specs.Free.{isFree}
 use Rattle.table.specs.Pair.{free, deleted, routing, stateOf, linkOf, lockOf}
 use Rattle.table.specs.declared.Which.{Which}
 use Rattle.table.specs.declared.Which.the-variants.{State, Edge}
@@ -88,7 +89,7 @@ parent-held prev side done n h =
 
 -- A deleted slot is not taken again
 pub fit-free : (ws : List ℕ) (i : ℕ) → fit ws i ≡ true → stateOf ws i ≡ free
-unfolding fit
+unfolding fit isFree
 fit-free ws i e = eqb-true _ _ e
 
 -- A slot with two children becomes routing

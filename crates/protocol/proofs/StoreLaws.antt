@@ -10,13 +10,14 @@ use native.Mathlib.Nat.{zero-div, zero-mod}
 use native.Mathlib.Decide.{ℕ-discrete}
 use lib.ListN.{length, getD}
 use Rattle.moment.proofs.Tests.{tests, by-cases}
+use Rattle.table.specs.Free.{lowestFrom, lowestSlot}
 use Rattle.table.specs.Pair.{asData, stateF, linkF, busyF, slotsOf, keyOf, setKey, fieldOf, stateOf, linkOf, busyOf, setState, setLink, zeroPair}
 use Rattle.table.specs.Rules.{pairFine, tableFine}
 use Rattle.table.proofs.PairLaws.{Slot, Holds, field-same, field-slot, field-field, field-key, field-length, field-lt, key-same, key-slot, key-field, key-length}
 use Rattle.table.proofs.ChangeLaws.{Only, only, fine-in, fine-state, table-size}
 use Rattle.protocol.specs.Plan.{plan, actionAt}
 use Rattle.protocol.specs.Record.{roles}
-use Rattle.protocol.specs.Stores.{fit, fitFrom, lowestFit, taken}
+use Rattle.protocol.specs.Stores.{fit, lowestFit, taken}
 use Rattle.protocol.specs.Step.{leave}
 use Rattle.protocol.specs.Calls.{seated}
 use Rattle.protocol.specs.declared.Kind.{Kind}
@@ -90,58 +91,58 @@ pub seat-only : (ws : List ℕ) → Slot ws 0 → busyOf ws < 16 → Only busyF 
 unfolding seated
 seat-only ws s h = only busyF ws 0 (busyOf ws + 1) s (omega arith)
 
--- The slot that is taken: the lowest that is fit
+-- The slot that is taken: the lowest that is fit, by the laws of a search for the lowest that passes a test
 
-pub fit-from : (ws : List ℕ) (i n : ℕ) → fitFrom ws i n ≢ 0
-    → (fit ws (fitFrom ws i n) ≡ true) × (i ≤ fitFrom ws i n) × (fitFrom ws i n < i + n)
-unfolding fitFrom
-fit-from ws i zero d = absurd (d refl)
-fit-from ws i (suc n) d =
-    by-cases (λ (k : ℕ). k ≢ 0 → (fit ws k ≡ true) × (i ≤ k) × (k < i + suc n)) (fit ws i)
-    (λ f e. (f, omega arith, omega arith))
-    (λ f e. let h = fit-from ws (suc i) n e in (h .0, omega (arith, h .1), omega (arith, h .2)))
+pub passes-from : (f : ℕ → Bool) (i n : ℕ) → lowestFrom f i n ≢ 0
+    → (f (lowestFrom f i n) ≡ true) × (i ≤ lowestFrom f i n) × (lowestFrom f i n < i + n)
+unfolding lowestFrom
+passes-from f i zero d = absurd (d refl)
+passes-from f i (suc n) d =
+    by-cases (λ (k : ℕ). k ≢ 0 → (f k ≡ true) × (i ≤ k) × (k < i + suc n)) (f i)
+    (λ g e. (g, omega arith, omega arith))
+    (λ g e. let h = passes-from f (suc i) n e in (h .0, omega (arith, h .1), omega (arith, h .2)))
     d
 
-pub fit-none-from : (ws : List ℕ) (i n : ℕ) → 0 < i → fitFrom ws i n ≡ 0 → (j : ℕ) → i ≤ j → j < i + n → fit ws j ≡ false
-unfolding fitFrom
-fit-none-from ws i zero z e j a b = absurd (omega arith)
-fit-none-from ws i (suc n) z e₀ j₀ a₀ b₀ =
-    by-cases (λ (k : ℕ). k ≡ 0 → (j : ℕ) → i ≤ j → j < i + suc n → fit ws j ≡ false) (fit ws i)
-    (λ f e j a b. absurd (omega arith))
-    (λ f e j a b. go f j a b (fit-none-from ws (suc i) n (omega arith) e j) (ℕ-discrete i j))
+pub passes-none : (f : ℕ → Bool) (i n : ℕ) → 0 < i → lowestFrom f i n ≡ 0 → (j : ℕ) → i ≤ j → j < i + n → f j ≡ false
+unfolding lowestFrom
+passes-none f i zero z e j a b = absurd (omega arith)
+passes-none f i (suc n) z e₀ j₀ a₀ b₀ =
+    by-cases (λ (k : ℕ). k ≡ 0 → (j : ℕ) → i ≤ j → j < i + suc n → f j ≡ false) (f i)
+    (λ g e j a b. absurd (omega arith))
+    (λ g e j a b. go g j a b (passes-none f (suc i) n (omega arith) e j) (ℕ-discrete i j))
     e₀ j₀ a₀ b₀
   where
-    go : fit ws i ≡ false → (j : ℕ) → i ≤ j → j < i + suc n → (suc i ≤ j → j < suc i + n → fit ws j ≡ false) → Dec (i ≡ j) → fit ws j ≡ false
-    go f j a b on (yes q) = rw (← q) f
-    go f j a b on (no q) = on (omega arith) (omega arith)
+    go : f i ≡ false → (j : ℕ) → i ≤ j → j < i + suc n → (suc i ≤ j → j < suc i + n → f j ≡ false) → Dec (i ≡ j) → f j ≡ false
+    go g j a b on (yes q) = rw (← q) g
+    go g j a b on (no q) = on (omega arith) (omega arith)
 
 pub lowest-fit : (ws : List ℕ) → lowestFit ws ≢ 0
     → (fit ws (lowestFit ws) ≡ true) × (1 ≤ lowestFit ws) × (lowestFit ws < slotsOf ws)
-unfolding lowestFit
-lowest-fit ws d = let h = fit-from ws 1 (slotsOf ws - 1) d in (h .0, h .1, omega (arith, h .1, h .2))
+unfolding lowestFit lowestSlot
+lowest-fit ws d = let h = passes-from (fit ws) 1 (slotsOf ws - 1) d in (h .0, h .1, omega (arith, h .1, h .2))
 
 -- none below it is: it is the lowest
-pub fit-least-from : (ws : List ℕ) (i n : ℕ) → (j : ℕ) → i ≤ j → j < fitFrom ws i n → fit ws j ≡ false
-unfolding fitFrom
-fit-least-from ws i zero j a b = absurd (omega arith)
-fit-least-from ws i (suc n) j₀ a₀ b₀ =
-    by-cases (λ (k : ℕ). (j : ℕ) → i ≤ j → j < k → fit ws j ≡ false) (fit ws i)
-    (λ f j a b. absurd (omega arith))
-    (λ f j a b. go f j a (fit-least-from ws (suc i) n j) b (ℕ-discrete i j))
+pub passes-least : (f : ℕ → Bool) (i n : ℕ) → (j : ℕ) → i ≤ j → j < lowestFrom f i n → f j ≡ false
+unfolding lowestFrom
+passes-least f i zero j a b = absurd (omega arith)
+passes-least f i (suc n) j₀ a₀ b₀ =
+    by-cases (λ (k : ℕ). (j : ℕ) → i ≤ j → j < k → f j ≡ false) (f i)
+    (λ g j a b. absurd (omega arith))
+    (λ g j a b. go g j a (passes-least f (suc i) n j) b (ℕ-discrete i j))
     j₀ a₀ b₀
   where
-    go : fit ws i ≡ false → (j : ℕ) → i ≤ j → (suc i ≤ j → j < fitFrom ws (suc i) n → fit ws j ≡ false) → j < fitFrom ws (suc i) n
-        → Dec (i ≡ j) → fit ws j ≡ false
-    go f j a on b (yes q) = rw (← q) f
-    go f j a on b (no q) = on (omega arith) b
+    go : f i ≡ false → (j : ℕ) → i ≤ j → (suc i ≤ j → j < lowestFrom f (suc i) n → f j ≡ false) → j < lowestFrom f (suc i) n
+        → Dec (i ≡ j) → f j ≡ false
+    go g j a on b (yes q) = rw (← q) g
+    go g j a on b (no q) = on (omega arith) b
 
 pub lowest-least : (ws : List ℕ) (j : ℕ) → 1 ≤ j → j < lowestFit ws → fit ws j ≡ false
-unfolding lowestFit
-lowest-least ws j a b = fit-least-from ws 1 (slotsOf ws - 1) j a b
+unfolding lowestFit lowestSlot
+lowest-least ws j a b = passes-least (fit ws) 1 (slotsOf ws - 1) j a b
 
 pub none-fit : (ws : List ℕ) → lowestFit ws ≡ 0 → (j : ℕ) → 1 ≤ j → j < slotsOf ws → fit ws j ≡ false
-unfolding lowestFit
-none-fit ws e j a b = fit-none-from ws 1 (slotsOf ws - 1) (omega arith) e j a (omega arith)
+unfolding lowestFit lowestSlot
+none-fit ws e j a b = passes-none (fit ws) 1 (slotsOf ws - 1) (omega arith) e j a (omega arith)
 
 -- The store that takes it
 

@@ -2,9 +2,10 @@
 -- Assumes nothing.
 use mathlib.Core.Bool.{Bool, cond}
 use mathlib.Core.List.{List}
-use Prim.Native.Nat.{ℕ, zero, suc, _-_}
+use Prim.Native.Nat.{ℕ}
 use lib.Dec.{eqb}
-use Rattle.table.specs.Pair.{free, asData, slotsOf, stateOf, setKey, setState, setLink, zeroPair}
+use Rattle.table.specs.Free.{lowestSlot, isFree}
+use Rattle.table.specs.Pair.{asData, setKey, setState, setLink, zeroPair}
 use Rattle.protocol.specs.Locks.{Did, did, giveUp}
 use Rattle.protocol.specs.declared.Phase.{Phase}
 use Rattle.protocol.specs.declared.Answer.the-variants.{Full}
@@ -12,15 +13,11 @@ use Rattle.protocol.specs.declared.Outcome.the-variants.{Goes, Ends, Ref
 
 -- a slot is fit to be taken when it is free
 unfoldable pub fit : List ℕ → ℕ → Bool
-fit ws i = eqb (stateOf ws i) free
+fit ws i = isFree ws i
 
--- the lowest of n slots from i on that is fit; 0: none
-unfoldable pub fitFrom : List ℕ → ℕ → ℕ → ℕ
-fitFrom ws i zero = 0
-fitFrom ws i (suc n) = let rest = fitFrom ws (suc i) n in cond (fit ws i) i rest
-
+-- the lowest that is; 0: none
 unfoldable pub lowestFit : List ℕ → ℕ
-lowestFit ws = fitFrom ws 1 (slotsOf ws - 1)
+lowestFit ws = lowestSlot ws (fit ws)
 
 -- the slot gets key and state data
 unfoldable pub taken : List ℕ → ℕ → ℕ → List ℕ

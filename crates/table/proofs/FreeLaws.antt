@@ -10,7 +10,7 @@ use lib.ListN.{length, getD}
 use borrow.Author.Tests.{eq-eqb, ne-eqb}
 use Rattle.layout.specs.Word.{get}
 use Rattle.table.specs.Pair.{slotsOf, wordOf, fieldOf}
-use Rattle.table.specs.Free.{fit, fitFrom, lowestFit, andFour, Sought}
+use Rattle.table.specs.Free.{lowestFrom, lowestSlot, isFree, lowestFree, andFour, Sought}
 
 -- the first second word that is no free slot's
 abbrev pub taken : ℕ
@@ -21,47 +21,47 @@ second-word : (ws : List ℕ) (at : ℕ) → at % 2 ≡ 1 → wordOf ws (at / 2)
 unfolding wordOf
 second-word ws at h = ap (λ (n : ℕ). getD ws n 0) (omega arith)
 
-pub fit-below : (ws : List ℕ) (at : ℕ) → at % 2 ≡ 1 → getD ws at 0 < taken → fit ws (at / 2) ≡ true
-unfolding fit fieldOf
-fit-below ws at h l = rw (second-word ws at h) (eq-eqb (get 62 2 (getD ws at 0)) 0 (omega arith))
+pub free-below : (ws : List ℕ) (at : ℕ) → at % 2 ≡ 1 → getD ws at 0 < taken → isFree ws (at / 2) ≡ true
+unfolding isFree fieldOf
+free-below ws at h l = rw (second-word ws at h) (eq-eqb (get 62 2 (getD ws at 0)) 0 (omega arith))
 
-pub fit-above : (ws : List ℕ) (at : ℕ) → at % 2 ≡ 1 → getD ws at 0 < 2 ^ 64 → taken ≤ getD ws at 0 → fit ws (at / 2) ≡ false
-unfolding fit fieldOf
-fit-above ws at h f l = rw (second-word ws at h) (ne-eqb (get 62 2 (getD ws at 0)) 0 (λ e. omega arith))
+pub free-above : (ws : List ℕ) (at : ℕ) → at % 2 ≡ 1 → getD ws at 0 < 2 ^ 64 → taken ≤ getD ws at 0 → isFree ws (at / 2) ≡ false
+unfolding isFree fieldOf
+free-above ws at h f l = rw (second-word ws at h) (ne-eqb (get 62 2 (getD ws at 0)) 0 (λ e. omega arith))
 
 -- a search over slots from i on, below s
-pub fit-more : (ws : List ℕ) (i s : ℕ) → i < s → fit ws i ≡ false → fitFrom ws i (s - i) ≡ fitFrom ws (suc i) (s - suc i)
-unfolding fitFrom
-fit-more ws i s h f = let e : s - i ≡ suc (s - suc i) = omega arith in rw (e, f)
+pub free-more : (ws : List ℕ) (i s : ℕ) → i < s → isFree ws i ≡ false → lowestFrom (isFree ws) i (s - i) ≡ lowestFrom (isFree ws) (suc i) (s - suc i)
+unfolding lowestFrom
+free-more ws i s h f = let e : s - i ≡ suc (s - suc i) = omega arith in rw (e, f)
 
-pub fit-here : (ws : List ℕ) (i s : ℕ) → i < s → fit ws i ≡ true → i ≡ fitFrom ws i (s - i)
-unfolding fitFrom
-fit-here ws i s h f = let e : s - i ≡ suc (s - suc i) = omega arith in rw (e, f)
+pub free-here : (ws : List ℕ) (i s : ℕ) → i < s → isFree ws i ≡ true → i ≡ lowestFrom (isFree ws) i (s - i)
+unfolding lowestFrom
+free-here ws i s h f = let e : s - i ≡ suc (s - suc i) = omega arith in rw (e, f)
 
-pub fit-none : (ws : List ℕ) (i s : ℕ) → s ≤ i → 0 ≡ fitFrom ws i (s - i)
-unfolding fitFrom
-fit-none ws i s h = let e : s - i ≡ 0 = omega arith in rw e
+pub free-none : (ws : List ℕ) (i s : ℕ) → s ≤ i → 0 ≡ lowestFrom (isFree ws) i (s - i)
+unfolding lowestFrom
+free-none ws i s h = let e : s - i ≡ 0 = omega arith in rw e
 
 -- where it begins
 pub begins : (ws : List ℕ) → Sought ws 3
-unfolding lowestFit
+unfolding lowestFree lowestSlot
 begins ws = record { second = omega arith; rest = omega arith }
 
 -- one slot more, from a place a on to the next, b
 pub one-more : (ws : List ℕ) (a b : ℕ) → b ≡ a + 2 → a < length ws → getD ws a 0 < 2 ^ 64 → taken ≤ getD ws a 0 → Sought ws a → Sought ws b
 one-more ws a b e h f l s =
-    let m = fit-more ws (a / 2) (slotsOf ws) (omega (arith, s .second)) (fit-above ws a (s .second) f l) in
+    let m = free-more ws (a / 2) (slotsOf ws) (omega (arith, s .second)) (free-above ws a (s .second) f l) in
     let d : b / 2 ≡ suc (a / 2) = omega arith in
     record {
       second = omega (arith, s .second);
       rest = rw d (s .rest ∙ m);
     }
 
-pub ends-here : (ws : List ℕ) (a : ℕ) → a < length ws → getD ws a 0 < taken → Sought ws a → a / 2 ≡ lowestFit ws
-ends-here ws a h l s = fit-here ws (a / 2) (slotsOf ws) (omega (arith, s .second)) (fit-below ws a (s .second) l) ∙ sym (s .rest)
+pub ends-here : (ws : List ℕ) (a : ℕ) → a < length ws → getD ws a 0 < taken → Sought ws a → a / 2 ≡ lowestFree ws
+ends-here ws a h l s = free-here ws (a / 2) (slotsOf ws) (omega (arith, s .second)) (free-below ws a (s .second) l) ∙ sym (s .rest)
 
-pub ends-at-none : (ws : List ℕ) (a : ℕ) → length ws ≤ a → Sought ws a → 0 ≡ lowestFit ws
-ends-at-none ws a h s = fit-none ws (a / 2) (slotsOf ws) (omega (arith, s .second)) ∙ sym (s .rest)
+pub ends-at-none : (ws : List ℕ) (a : ℕ) → length ws ≤ a → Sought ws a → 0 ≡ lowestFree ws
+ends-at-none ws a h s = free-none ws (a / 2) (slotsOf ws) (omega (arith, s .second)) ∙ sym (s .rest)
 
 -- four slots more: each of their words is at least the AND of all
 pub four-more : (ws : List ℕ) (a b : ℕ) → b ≡ a + 8 → a + 6 < length ws → ((i : ℕ) → getD ws i 0 < 2 ^ 64) → taken ≤ andFour ws a → Sought ws a → Sought ws b

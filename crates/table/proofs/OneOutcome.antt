@@ -4,7 +4,7 @@ use mathlib.Core.Path.{_≡_, sym, _∙_}
 use mathlib.Core.Bool.{Bool}
 use mathlib.Core.List.{List}
 use Prim.Native.Nat.{ℕ}
-use Rattle.table.specs.Free.{lowestFit}
+use Rattle.table.specs.Free.{lowestFree}
 use Rattle.table.specs.Pair.{slotsOf, wordOf, keyOf, stateOf, linkOf, lockOf, busyOf, setKey, setState, setLink, setLock, setBusy, zeroPair, zeroed}
 use Rattle.table.specs.Rules.{bitsFine, pairFine, tableFine, replySays, freshSays, freshWords}
 use Rattle.table.specs.declared.Which.{Which}
@@ -20,7 +20,7 @@ key-one ws i a b p q = p ∙ sym q
 pub fields-one : (ws : List ℕ) (i : ℕ) (a b : ℕ) → a ≡ wordOf ws i 1 → b ≡ wordOf ws i 1 → a ≡ b
 fields-one ws i a b p q = p ∙ sym q
 
-pub lowest-free-one : (ws : List ℕ) (a b : ℕ) → a ≡ lowestFit ws → b ≡ lowestFit ws → a ≡ b
+pub lowest-free-one : (ws : List ℕ) (a b : ℕ) → a ≡ lowestFree ws → b ≡ lowestFree ws → a ≡ b
 lowest-free-one ws a b p q = p ∙ sym q
 
 pub state-one : (ws : List ℕ) (i : ℕ) (a b : ℕ) → a ≡ stateOf ws i → b ≡ stateOf ws i → a ≡ b

@@ -9,23 +9,26 @@ use lib.Bits.{bitAnd}
 use lib.ListN.{getD}
 use Rattle.table.specs.Pair.{free, slotsOf, stateOf}
 
--- a slot is fit to be taken when it is free
-unfoldable pub fit : List ℕ → ℕ → Bool
-fit ws i = eqb (stateOf ws i) free
+-- the lowest of n numbers from i on that passes a test; 0: none
+unfoldable pub lowestFrom : (ℕ → Bool) → ℕ → ℕ → ℕ
+lowestFrom f i zero = 0
+lowestFrom f i (suc n) = let rest = lowestFrom f (suc i) n in cond (f i) i rest
 
--- the lowest of n slots from i on that is fit; 0: none
-unfoldable pub fitFrom : List ℕ → ℕ → ℕ → ℕ
-fitFrom ws i zero = 0
-fitFrom ws i (suc n) = let rest = fitFrom ws (suc i) n in cond (fit ws i) i rest
+-- the lowest slot of a table that does, the root aside
+unfoldable pub lowestSlot : List ℕ → (ℕ → Bool) → ℕ
+lowestSlot ws f = lowestFrom f 1 (slotsOf ws - 1)
 
-unfoldable pub lowestFit : List ℕ → ℕ
-lowestFit ws = fitFrom ws 1 (slotsOf ws - 1)
+unfoldable pub isFree : List ℕ → ℕ → Bool
+isFree ws i = eqb (stateOf ws i) free
+
+unfoldable pub lowestFree : List ℕ → ℕ
+lowestFree ws = lowestSlot ws (isFree ws)
 
 -- the second words of four slots ANDed, from the one at `at` on
 unfoldable pub andFour : List ℕ → ℕ → ℕ
 andFour ws at = bitAnd (bitAnd (bitAnd (getD ws at 0) (getD ws (at + 2) 0)) (getD ws (at + 4) 0)) (getD ws (at + 6) 0)
 
--- a search has come to the second word at `at`, and no slot before is fit
+-- a search has come to the second word at `at`, and no slot before is free
 pub record Sought (ws : List ℕ) (at : ℕ) : Type 0 where
   pub second : at % 2 ≡ 1
-  pub rest : lowestFit ws ≡ fitFrom ws (at / 2) (slotsOf ws - at / 2)
+  pub rest : lowestFree ws ≡ lowestFrom (isFree ws) (at / 2) (slotsOf ws - at / 2)

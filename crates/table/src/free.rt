@@ -3,7 +3,7 @@
 ghost use mathlib.Core.Path.{_≡_};
 ghost use Prim.Native.Nat.{ℕ, _+_, _<_};
 ghost use lib.ListN.{length};
-ghost use Rattle.table.specs.Free.{lowestFit, andFour, Sought};
+ghost use Rattle.table.specs.Free.{lowestFree, andFour, Sought};
 
 // The first second word that is no free slot's.
 const TAKEN: u64 = 4611686018427387904;
@@ -33,7 +33,7 @@ fn past_full(t: &[u64]) -> usize
 
 // The lowest free slot from 1 on; 0: none.
 pub fn lowest_free(t: &[u64]) -> u64
-    ensures { λ r. ⌜ r ≡ lowestFit (now (t .entry)) ⌝ }
+    ensures { λ r. ⌜ r ≡ lowestFree (now (t .entry)) ⌝ }
 {
     let n = t.len();
     let mut at = past_full(t);

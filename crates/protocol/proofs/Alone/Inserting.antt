@@ -18,7 +18,6 @@ use Rattle.tree.proofs.Paths.{way-reached, unique-key}
 use Rattle.protocol.specs.Plan.{writeState, plan}
 use Rattle.protocol.specs.Record.{roles}
 use Rattle.protocol.specs.Locks.{stateFits, linksFit}
-use Rattle.protocol.specs.Stores.{fit}
 use Rattle.protocol.specs.Calls.{seated}
 use Rattle.protocol.specs.Alone.{Calm, Needs, NoneFree}
 use Rattle.protocol.specs.declared.Kind.the-variants.{Insert}

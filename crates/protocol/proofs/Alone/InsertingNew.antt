@@ -10,6 +10,7 @@ use native.Mathlib.Numerals.{add-one}
 use lib.ListN.{getD}
 use borrow.Author.Tests.{eq-eqb, ne-eqb, lt-ltb}
 use Rattle.moment.specs.Key.{legalOf}
+use Rattle.table.specs.Free.{isFree}
 use Rattle.table.specs.Pair.{free, deleted, stateF, slotsOf, keyOf, stateOf, linkOf, setLink}
 use Rattle.table.proofs.PairLaws.{field-lt}
 use Rattle.tree.specs.Reach.{Tab, tabOf, Reached, Has, InSet}
@@ -109,7 +110,7 @@ unturned : {D : ℕ → Bool} {k : ℕ} {A : Tab} → Grown D A → Linked A →
 unturned g l = record { grown = g; linked = l; others = λ j n. ((λ h. h), λ h. h) }
 
 fits : (us : List ℕ) (j : ℕ) → stateOf us j ≡ free → fit us j ≡ true
-unfolding fit
+unfolding fit isFree
 fits us j e = eq-eqb (stateOf us j) free e
 
 module _ {ws : List ℕ} (c : Calm ws) (k : ℕ) (legal : legalOf k ≡ true) where

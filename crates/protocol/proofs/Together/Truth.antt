@@ -11,6 +11,7 @@ use native.Mathlib.Decide.{ℕ-discrete}
 use lib.ListN.{length, getD, length-map}
 use borrow.Author.Tests.{eqb-false}
 use Rattle.moment.specs.Said.{Said, gives}
+use Rattle.table.specs.Free.{isFree}
 use Rattle.table.specs.Pair.{stateOf}
 use Rattle.tree.specs.Reach.{Tab, tabOf}
 use Rattle.protocol.specs.Says as says
@@ -93,7 +94,7 @@ full-none ws w =
     (λ kind t i f r q. full-act w ws kind (w .key) (w .phase) _ _ (actionOf (w .phase)) q)
 
 pub none-free : (ws : List ℕ) (w : Worker) → stateOf ws 0 ≡ 1 → stepOf ws w .says ≡ gives full → NoneFree ws
-unfolding fit
+unfolding fit isFree
 none-free ws w r e x l = go (ℕ-discrete x 0)
   where
     go : Dec (x ≡ 0) → stateOf ws x ≢ 0

@@ -2,6 +2,7 @@
 #![allow(dead_code, unused_imports)]
 pub mod reference;
 pub mod reference_keys;
+pub mod replay;
 pub mod states;
 
 /// A seeded stream of numbers (splitmix64).

@@ -23,24 +23,30 @@ pub const FIRST: u64 = 6;
 
 pub const LIST: u64 = 7;
 
-pub const START: u64 = 8;
+pub const KEY: u64 = 8;
 
-pub const STEP: u64 = 9;
+pub const PAIR: u64 = 9;
 
-pub const WITHDRAW: u64 = 10;
+pub const START: u64 = 10;
 
-pub const RUN: u64 = 11;
+pub const STEP: u64 = 11;
 
-pub const IDLE: u64 = 12;
+pub const WITHDRAW: u64 = 12;
 
-pub const RECORD: u64 = 13;
+pub const RUN: u64 = 13;
 
-pub const SET: u64 = 14;
+pub const IDLE: u64 = 14;
 
-pub const BAD: u64 = 15;
+pub const RECORD: u64 = 15;
+
+pub const SET: u64 = 16;
+
+pub const PUT: u64 = 17;
+
+pub const BAD: u64 = 18;
 
 // What a number of a command is: 0 none, 1 decimal, 2 hexadecimal, 3 a kind of work. Three for each command.
-const FORMS: [u8; 45] = [
+const FORMS: [u8; 54] = [
     1,
     0,
     0,
@@ -65,9 +71,18 @@ const FORMS: [u8; 45] = [
     2,
     2,
     1,
+    1,
+    2,
+    0,
+    1,
+    0,
+    0,
     1,
     3,
     2,
+    1,
+    0,
+    0,
     1,
     0,
     0,
@@ -129,9 +144,10 @@ fn one_number(s: &[u8], from: usize, to: usize, form: u8) -> Num {
     }
 }
 
-// The numbers of a command, and no word more but for `set`.
+// The numbers of a command, and no word more but for `set` and `put`, the last of the list: their other words are read
+// where they are carried out.
 fn numbers(s: &[u8], w: Split, command: u64) -> Asked
-    requires { ⌜ command < 15 ⌝ }
+    requires { ⌜ command < 18 ⌝ }
 {
     let from = w.from;
     let to = w.to;
@@ -154,7 +170,7 @@ fn numbers(s: &[u8], w: Split, command: u64) -> Asked
             words = i + 1;
         }
     }
-    if (w.count != words) & (command != SET) {
+    if (w.count != words) & (command < SET) {
         return bad();
     }
     Asked {
@@ -171,7 +187,7 @@ fn fine(a: Asked, size: u64) -> bool {
     match command {
         TABLE => a.x <= MOST,
         POKE => a.x < size,
-        SLOT => a.x < size / 2,
+        SLOT | KEY | PAIR | PUT => a.x < size / 2,
         FIRST => true,
         LIST => a.z <= ROOM,
         _ => a.x < RECORDS,
@@ -186,7 +202,7 @@ pub fn ask(s: &[u8], w: Split, size: u64) -> Asked {
         s,
         from[0],
         to[0],
-        b"table fresh poke slot check sweep first list start step withdraw run idle record set",
+        b"table fresh poke slot check sweep first list key pair start step withdraw run idle record set put",
     );
     if BAD <= command {
         return bad();

@@ -2,10 +2,13 @@
 use super::asked::CHECK;
 use super::asked::FIRST;
 use super::asked::FRESH;
+use super::asked::KEY;
 use super::asked::LIST;
+use super::asked::PAIR;
 use super::asked::POKE;
 use super::asked::SLOT;
 use super::asked::SWEEP;
+use super::pairs;
 use abi::between;
 use script::answers;
 
@@ -88,6 +91,8 @@ pub fn carry_out(table: &mut [u64], command: u64, x: u64, y: u64, z: u64) {
         SWEEP => answers::reply(between::pannuqreik_sweep(table)),
         FIRST => first(table, x),
         LIST => list(table, x, y, &mut keys, z),
+        KEY => pairs::key(table, x, y),
+        PAIR => pairs::show(table, x),
         _ => (),
     }
 }

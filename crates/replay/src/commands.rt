@@ -1,4 +1,5 @@
-// The commands, carried out: those on a record here, those on the table alone in `between`.
+// The commands, carried out: those on a record here, those on the table alone in `between`, and those that speak in
+// fields in `pairs`.
 use super::asked;
 use super::asked::Asked;
 use super::asked::IDLE;
@@ -8,6 +9,7 @@ use super::asked::START;
 use super::asked::STEP;
 use super::asked::WITHDRAW;
 use super::between;
+use super::pairs;
 use abi::workers;
 use script::answers;
 use script::line;
@@ -92,6 +94,10 @@ fn set(s: &[u8], w: Split, record: &mut [u64], number: u64) {
 fn carry_out(s: &[u8], w: Split, table: &mut [u64], records: &mut [u64], number: u64, a: Asked) {
     if a.command < asked::START {
         between::carry_out(table, a.command, a.x, a.y, a.z);
+        return;
+    }
+    if a.command == asked::PUT {
+        pairs::put(s, w, table, a.x, number);
         return;
     }
     if asked::RECORDS <= a.x {

@@ -3,6 +3,7 @@
 mod asked;
 mod between;
 mod commands;
+mod pairs;
 
 use libc::STDIN_FILENO;
 use script::answers;

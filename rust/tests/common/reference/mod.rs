@@ -3,7 +3,7 @@
 mod acts;
 pub mod record;
 mod steps;
-mod table;
+pub mod table;
 
 pub use steps::{start, step, withdraw};
 pub use table::{check, first, fresh, list, sweep};

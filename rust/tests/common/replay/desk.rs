@@ -1,7 +1,8 @@
 //! The commands, carried out: a table in a buffer, and the records.
 use super::line::{below, hexadecimal, up_to};
-use super::record;
+use super::{pair, record};
 use crate::common::reference::record::write;
+use crate::common::reference::table::put;
 use crate::common::reference::{self, FULL, GOING, NO, YES};
 
 const BUFFER: usize = 2_200;
@@ -55,7 +56,10 @@ impl Desk {
             ["table", w] => self.lend(up_to(BUFFER, w)?),
             ["fresh"] => Some(reply(reference::fresh(self.table()))),
             ["poke", i, h] => self.poke(below(self.size, i)?, hexadecimal(h)?),
-            ["slot", i] => self.slot(below(self.size / 2, i)?),
+            ["slot", i] => self.slot(self.place(i)?),
+            ["key", i, h] => self.poke(2 * self.place(i)?, hexadecimal(h)?),
+            ["put", i, fields @ ..] => self.put(self.place(i)?, fields),
+            ["pair", i] => self.pair(self.place(i)?),
             ["check"] => Some(self.check()),
             ["list", low, high, room] => self.list(hexadecimal(low)?, hexadecimal(high)?, up_to(MOST_KEYS, room)?),
             ["first", from] => self.first(hexadecimal(from)?),
@@ -92,6 +96,11 @@ impl Desk {
         &mut self.buffer[..self.size]
     }
 
+    /// A slot of the table.
+    fn place(&self, word: &str) -> Option<usize> {
+        below(self.size / 2, word)
+    }
+
     fn lend(&mut self, size: usize) -> Option<String> {
         self.size = size;
         Some(done())
@@ -105,6 +114,16 @@ impl Desk {
     fn slot(&mut self, i: usize) -> Option<String> {
         let table = self.table();
         Some(format!("{:016X} {:016X}", table[2 * i], table[2 * i + 1]))
+    }
+
+    fn pair(&mut self, i: usize) -> Option<String> {
+        Some(pair::printed(self.table(), i))
+    }
+
+    fn put(&mut self, i: usize, fields: &[&str]) -> Option<String> {
+        let fields = pair::parsed(i == 0, fields)?;
+        put(self.table(), i as u64, fields);
+        Some(done())
     }
 
     fn check(&mut self) -> String {

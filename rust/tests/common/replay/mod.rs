@@ -2,6 +2,7 @@
 //! no code with the program, so the program is not held to its own output.
 mod desk;
 mod line;
+mod pair;
 mod record;
 
 use desk::Desk;

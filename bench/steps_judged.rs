@@ -1,16 +1,35 @@
 // The same steps on the same words, as one would write them in Rust with every judgement that the specification asks of a
 // call: rule 1, the record's rules, the key's legality, the rules of each pair that is met. No proof. It shows what judging
-// costs in any language. Only for comparison; bench/steps.rs checks that it leaves the same words.
+// costs in any language, so it judges by as few tests as it can: steps_rules.rs. Only for comparison; bench/steps.rs checks
+// that it leaves the same words, and rust/tests/judged.rs that it answers as the specification says, whatever it is given.
 
+#[path = "steps_locks.rs"]
+mod locks;
+#[path = "steps_plan.rs"]
+mod plan;
 #[path = "steps_rules.rs"]
 mod rules;
 
-use super::{over, FULL, GOING, NO, YES};
-use rules::{damaged, distinct, give_up, legal, link, lock, rule_1, set, state, word, Lock, DATA, FREE, LINK, LOCK};
+use rules::{
+    judged_root, legal, legal_at_once, links, links_at_once, pair_fine, root_at_once, root_busy, rooted, Pairs, DATA, DELETED,
+    MOST_BUSY, ROOT_EMPTY, ROOT_SEATED, ROUTING, SEAT, STATE,
+};
 
-const ROUTING: u64 = 2;
-const DELETED: u64 = 3;
+/// What a step answers.
+const GOING: u64 = 0;
+const FULL: u64 = 5;
+const YES: u64 = 16;
+const NO: u64 = 17;
 
+/// Numbers of refusal.
+const BROKEN: u64 = 1;
+const BUSY_OR_IDLE: u64 = 2;
+const NOT_LEGAL: u64 = 3;
+const NO_SEAT: u64 = 4;
+const DAMAGED: u64 = 6;
+const CROWDED: u64 = 9;
+
+const LOOKUP: u64 = 1;
 const INSERT: u64 = 2;
 const REMOVE: u64 = 3;
 
@@ -21,21 +40,22 @@ const TWO: u64 = 3;
 const ONE: u64 = 4;
 const LEAF: u64 = 5;
 const UNDER_DATA: u64 = 6;
+const UNDER_ROUTING: u64 = 7;
 
 /// A worker's record: the library's eleven words by name, moved on in place.
 #[derive(Clone, Copy)]
 pub struct Judged {
-    work: u64,
-    key: u64,
-    phase: u64,
-    this: u64,
-    prev: u64,
-    side: u64,
-    before: u64,
-    up: u64,
-    other: u64,
-    toward: u64,
-    done: u64,
+    pub work: u64,
+    pub key: u64,
+    pub phase: u64,
+    pub this: u64,
+    pub prev: u64,
+    pub side: u64,
+    pub before: u64,
+    pub up: u64,
+    pub other: u64,
+    pub toward: u64,
+    pub done: u64,
 }
 
 pub const IDLE: Judged =
@@ -44,236 +64,215 @@ pub const IDLE: Judged =
 impl Judged {
     /// Are the words a record: numbers that one has, and nothing that its phase does not note?
     fn is_record(&self) -> bool {
-        let free = match self.phase {
+        let none = match self.phase {
             WALK | LEAF => self.other | self.toward | self.done,
             ON_ROUTING | TWO => self.prev | self.side | self.before | self.up | self.other | self.toward,
             NEW => self.this | self.before | self.up | self.other | self.toward,
             ONE => self.before | self.up,
             UNDER_DATA => self.before | self.up | self.other | self.toward,
-            7 => self.toward,
-            _ => 1,
+            UNDER_ROUTING => self.toward,
+            _ => return false,
         };
-        self.work <= 3 && self.side <= 1 && self.up <= 1 && self.toward <= 1 && free == 0
+        none == 0 && self.work <= REMOVE && (self.side | self.up | self.toward) <= 1
     }
 
-    /// No slot beyond the table, none in two roles, none lacking; a phase of the work; a legal key.
-    fn fine(&self, slots: u64) -> bool {
-        let Judged { work, this, prev, before, other, .. } = *self;
-        let roles = match self.phase {
-            WALK if prev == 0 => before == 0,
-            WALK => this != 0 && distinct(this, prev, before),
-            ON_ROUTING => work == INSERT && this != 0,
-            NEW => work == INSERT,
-            TWO => work == REMOVE && this != 0,
-            ONE => work == REMOVE && this != 0 && other != 0 && distinct(this, prev, other),
-            LEAF if prev == 0 => work == REMOVE && this != 0 && before == 0,
-            LEAF => work == REMOVE && this != 0 && distinct(this, prev, before),
-            UNDER_DATA => work == REMOVE && this != 0 && this != prev,
-            _ => {
-                let rest = before != other && this != other && prev != other;
-                work == REMOVE && this != 0 && prev != 0 && other != 0 && rest && distinct(this, prev, before)
-            }
-        };
-        roles && this < slots && prev < slots && before < slots && other < slots && legal(self.key)
-    }
-
-    pub fn start(&mut self, words: &mut [u64], work: u64, key: u64) -> u64 {
-        if !rule_1(words) {
-            return 1;
+    /// Why a record that no step can be made of is refused.
+    #[cold]
+    #[inline(never)]
+    fn refused(&self) -> u64 {
+        if self.work == 0 && self.is_record() {
+            BUSY_OR_IDLE
+        } else {
+            DAMAGED
         }
+    }
+
+    /// Takes a seat. Not inlined, and the step neither: the library's calls are not.
+    #[inline(never)]
+    pub fn start(&mut self, words: &mut [u64], work: u64, key: u64) -> u64 {
+        let Some((pairs, word)) = rooted(words) else { return BROKEN };
+        let noted = self.phase | self.this | self.prev | self.side | self.before | self.up | self.other | self.toward;
+        if noted != 0 || self.work | self.done != 0 || !legal_at_once(key) || !root_at_once(word, ROOT_EMPTY, pairs.len()) {
+            return self.start_late(pairs, work, key);
+        }
+        self.begin(pairs, work, key)
+    }
+
+    /// A start that can't be told at once.
+    #[inline(never)]
+    fn start_late(&mut self, pairs: &mut Pairs, work: u64, key: u64) -> u64 {
+        let Some(busy) = root_busy(pairs[0][1], pairs.len()) else { return BROKEN };
         if !self.is_record() {
-            return 6;
+            return DAMAGED;
         }
         if self.work != 0 {
-            return 2;
+            return BUSY_OR_IDLE;
         }
         if !legal(key) {
-            return 3;
+            return NOT_LEGAL;
         }
-        if words[1] >> 19 & 31 == 16 {
-            return 4;
+        if busy == MOST_BUSY {
+            return NO_SEAT;
         }
-        words[1] += 1 << 19;
+        self.begin(pairs, work, key)
+    }
+
+    #[inline(always)]
+    fn begin(&mut self, pairs: &mut Pairs, work: u64, key: u64) -> u64 {
+        pairs[0][1] += SEAT;
         *self = Judged { work, key, ..IDLE };
         GOING
     }
 
-    /// The locks of this phase, in the order in which they are taken: slot, field, written.
-    fn locks(&self) -> ([Lock; 5], u64) {
-        let (this, prev, none) = (self.this, self.prev, (0, 0, false));
-        let (edge, back) = (1 + self.side as usize, 2 - self.side as usize);
-        match self.phase {
-            ON_ROUTING | TWO => ([(this, 0, true), none, none, none, none], 1),
-            NEW => ([(prev, edge, true), (prev, 0, false), none, none, none], 2),
-            ONE => ([(this, 1 + self.toward as usize, false), (prev, edge, true), (this, 0, true), none, none], 3),
-            UNDER_DATA => ([(prev, edge, true), (this, 0, true), (prev, 0, false), none, none], 3),
-            _ => {
-                let up = (self.before, 1 + self.up as usize, true);
-                ([(prev, edge, true), (this, 0, true), (prev, back, false), up, (prev, 0, true)], 5)
-            }
-        }
+    /// The end of a work: the seat is given up, and the record is idle.
+    #[inline(always)]
+    fn over(&mut self, root: &mut [u64; 2], answer: u64) -> u64 {
+        root[1] -= SEAT;
+        *self = IDLE;
+        answer
     }
 
+    #[inline(always)]
     fn restart(&mut self) -> u64 {
         *self = Judged { work: self.work, key: self.key, ..IDLE };
         GOING
     }
 
-    fn walk(&mut self, words: &mut [u64]) -> u64 {
-        let at = self.this;
-        if damaged(words, at) {
-            return 6;
+    /// Does a walk, or a leaf's remover, name slots of the table, and none in two roles?
+    #[inline(always)]
+    fn walk_roles(&self, slots: usize) -> bool {
+        let Judged { this, prev, before, .. } = *self;
+        if (this as usize) >= slots || (prev as usize) >= slots || (before as usize) >= slots {
+            return false;
         }
-        let key = words[2 * at as usize];
-        if key == self.key {
-            return self.found(words, at);
+        // at the root and under it, the slots that there are not are the root
+        if this == 0 || prev == 0 {
+            return prev | before == 0;
         }
-        let side = (key < self.key) as u64;
-        let next = link(words, at, side);
-        if next != 0 {
-            (self.before, self.up) = (self.prev, self.side);
-            (self.this, self.prev, self.side) = (next, at, side);
-            return GOING;
-        }
-        if self.work != INSERT {
-            return over(self, IDLE, words, NO);
-        }
-        *self = Judged { work: INSERT, key: self.key, phase: NEW, prev: at, side, ..IDLE };
-        GOING
+        this != prev && this != before && before != prev
     }
 
-    fn found(&mut self, words: &mut [u64], at: u64) -> u64 {
-        let Judged { work, key, prev, side, .. } = *self;
-        match (work, state(words, at)) {
-            (1, DATA) => return over(self, IDLE, words, YES),
-            (INSERT, DELETED) => return self.restart(),
-            (INSERT, ROUTING) => *self = Judged { work, key, phase: ON_ROUTING, this: at, ..IDLE },
-            (REMOVE, DATA) => match (link(words, at, 0), link(words, at, 1)) {
-                (0, 0) => self.phase = LEAF,
-                (0, other) => *self = Judged { work, key, phase: ONE, this: at, prev, side, other, toward: 1, ..IDLE },
-                (other, 0) => *self = Judged { work, key, phase: ONE, this: at, prev, side, other, ..IDLE },
-                _ => *self = Judged { work, key, phase: TWO, this: at, ..IDLE },
-            },
-            _ => return over(self, IDLE, words, NO),
-        }
-        GOING
+    /// Are these words of a walk such as a busy one has?
+    #[inline(always)]
+    fn walks(&self) -> bool {
+        (self.side | self.up) <= 1 && self.work.wrapping_sub(1) < REMOVE
     }
 
-    fn look(&mut self, words: &[u64]) -> u64 {
-        if damaged(words, self.prev) {
-            return 6;
-        }
-        let other = link(words, self.prev, 1 - self.side);
-        match state(words, self.prev) {
-            DATA => (self.phase, self.before, self.up) = (UNDER_DATA, 0, 0),
-            ROUTING if other != 0 => (self.phase, self.other) = (7, other),
-            _ => return self.restart(),
-        }
-        GOING
-    }
-
-    fn expects(&self, words: &[u64], n: u64) -> bool {
-        let (this, prev) = (self.this, self.prev);
-        let leads = |slot, side, to| state(words, slot) != DELETED && link(words, slot, side) == to;
-        let leaf = || state(words, this) == DATA && link(words, this, 0) == 0 && link(words, this, 1) == 0;
-        match (self.phase, n) {
-            (ON_ROUTING, _) => state(words, this) == ROUTING,
-            (TWO, _) => state(words, this) == DATA && link(words, this, 0) != 0 && link(words, this, 1) != 0,
-            (NEW, 0) => leads(prev, self.side, 0),
-            (NEW, _) => state(words, prev) != DELETED,
-            (ONE, 0) => leads(this, self.toward, self.other),
-            (ONE, 2) => state(words, this) == DATA && link(words, this, 1 - self.toward) == 0,
-            (UNDER_DATA, 2) => state(words, prev) == DATA,
-            (7, 2) => leads(prev, 1 - self.side, self.other),
-            (7, 3) => leads(self.before, self.up, prev),
-            (7, 4) => state(words, prev) == ROUTING,
-            (ONE, _) | (_, 0) => leads(prev, self.side, this),
-            _ => leaf(),
-        }
-    }
-
-    fn take_lock(&mut self, words: &mut [u64], locks: &[Lock], n: usize) -> u64 {
-        let (slot, field, write) = locks[n];
-        if damaged(words, slot) {
-            return 6;
-        }
-        let x = lock(words, slot, field);
-        let free = if write { x == 0 } else { x != 1 };
-        if !free || !self.expects(words, n as u64) {
-            return if give_up(words, &locks[..n]) { self.restart() } else { 6 };
-        }
-        if !write && x == 32 {
-            return 9;
-        }
-        words[2 * slot as usize + 1] += (if write { 1 } else { 2 }) << LOCK[field];
-        self.done += 1;
-        GOING
-    }
-
-    fn new_slot(&mut self, words: &mut [u64], locks: &[Lock]) -> u64 {
-        if damaged(words, self.prev) {
-            return 6;
-        }
-        let Some(free) = (1..words.len() as u64 / 2).find(|i| state(words, *i) == FREE) else {
-            return if give_up(words, locks) { over(self, IDLE, words, FULL) } else { 6 };
-        };
-        if words[2 * free as usize] != 0 || word(words, free) != 0 {
-            return 6;
-        }
-        words[2 * free as usize] = self.key;
-        words[2 * free as usize + 1] = DATA << 62;
-        set(words, self.prev, LINK[self.side as usize], 10, free);
-        self.done += 1;
-        GOING
-    }
-
-    /// A step of a phase that takes locks.
-    fn act(&mut self, words: &mut [u64]) -> u64 {
-        let (locks, count) = self.locks();
-        let locks = &locks[..count as usize];
-        if self.done < count {
-            return self.take_lock(words, locks, self.done as usize);
-        }
-        let Judged { this, prev, before, other, .. } = *self;
-        let (side, up) = (LINK[self.side as usize], LINK[self.up as usize]);
-        let (slot, at, width, to) = match (self.phase, self.done - count) {
-            (NEW, 0) => return self.new_slot(words, locks),
-            (ON_ROUTING, 0) => (this, 62, 2, DATA),
-            (TWO, 0) => (this, 62, 2, ROUTING),
-            (ONE | UNDER_DATA | 7, 0) => (this, 62, 2, DELETED),
-            (ONE | UNDER_DATA, 1) => (prev, side, 10, other),
-            (7, 1) => (prev, 62, 2, DELETED),
-            (7, 2) => (before, up, 10, other),
-            (ON_ROUTING | NEW | TWO, 1) | (ONE | UNDER_DATA, 2) | (7, 3) => {
-                return if give_up(words, locks) { over(self, IDLE, words, YES) } else { 6 };
-            }
-            _ => return 6,
-        };
-        if damaged(words, slot) {
-            return 6;
-        }
-        set(words, slot, at, width, to);
-        self.done += 1;
-        GOING
-    }
-
+    /// One step. A walk under a root without locks, with a day up to 28, is judged here, each rule by a test or two.
+    #[inline(never)]
     pub fn step(&mut self, words: &mut [u64]) -> u64 {
-        if !rule_1(words) {
-            return 1;
+        if self.phase | self.other | self.toward | self.done != 0 {
+            return self.act(words);
         }
-        if !self.is_record() {
-            return 6;
+        let Some((pairs, word)) = rooted(words) else { return BROKEN };
+        if !root_at_once(word, ROOT_SEATED, pairs.len()) || !legal_at_once(self.key) {
+            return self.walk_late(pairs, word);
         }
-        if self.work == 0 {
-            return 2;
+        self.walk(pairs, word)
+    }
+
+    /// A step of a walk whose root or key can't be told at once.
+    #[inline(never)]
+    fn walk_late(&mut self, pairs: &mut Pairs, word: u64) -> u64 {
+        let Some(busy) = judged_root(pairs, word) else { return BROKEN };
+        if !busy || !legal(self.key) {
+            return self.refused();
         }
-        if !self.fine(words.len() as u64 / 2) || words[1] >> 19 & 31 == 0 {
-            return 6;
+        self.walk(pairs, word)
+    }
+
+    /// A step of a walk, after root and key have been judged.
+    #[inline(always)]
+    fn walk(&mut self, pairs: &mut Pairs, root: u64) -> u64 {
+        if self.this == 0 {
+            return self.leave_root(pairs, root);
         }
-        match self.phase {
-            WALK => self.walk(words),
-            LEAF => self.look(words),
-            _ => self.act(words),
+        let slots = pairs.len();
+        if !self.walks() || !self.walk_roles(slots) {
+            return self.refused();
         }
+        let Some(&[found, word]) = pairs.get(self.this as usize) else { return DAMAGED };
+        let Some((left, right)) = links_at_once(word) else { return self.visit_late(pairs) };
+        // both ways out say damaged; they are two, so that the compiler makes two branches of the tests, which is shorter
+        if left >= slots {
+            return self.refused();
+        }
+        if right >= slots {
+            return self.visit_late(pairs);
+        }
+        self.visit(pairs, found, (left, right))
+    }
+
+    /// A walk's first step: a legal key is left of the root, whose word keeps rule 1.
+    #[inline(always)]
+    fn leave_root(&mut self, pairs: &mut Pairs, word: u64) -> u64 {
+        if self.prev | self.before != 0 || !self.walks() {
+            return self.refused();
+        }
+        let (left, _) = links(word);
+        let Some(root) = pairs.first_mut() else { return DAMAGED };
+        if left == 0 {
+            return self.at_nothing(root, 0);
+        }
+        (self.this, self.side, self.up) = (left as u64, 0, self.side);
+        GOING
+    }
+
+    /// Goes on from a slot whose pair can't be told at once.
+    #[inline(never)]
+    fn visit_late(&mut self, pairs: &mut Pairs) -> u64 {
+        let [found, word] = pairs[self.this as usize];
+        if !pair_fine(word, pairs.len()) {
+            return DAMAGED;
+        }
+        self.visit(pairs, found, links(word))
+    }
+
+    /// Goes on from a slot that is fine.
+    #[inline(always)]
+    fn visit(&mut self, pairs: &mut Pairs, found: u64, (left, right): (usize, usize)) -> u64 {
+        if found == self.key {
+            return self.found(pairs);
+        }
+        let Some(root) = pairs.first_mut() else { return DAMAGED };
+        let right_of = found < self.key;
+        let next = if right_of { right } else { left };
+        if next == 0 {
+            return self.at_nothing(root, right_of as u64);
+        }
+        (self.before, self.up) = (self.prev, self.side);
+        (self.prev, self.side) = (self.this, right_of as u64);
+        self.this = next as u64;
+        GOING
+    }
+
+    /// The walk ends below this slot, on a side.
+    #[inline(never)]
+    fn at_nothing(&mut self, root: &mut [u64; 2], side: u64) -> u64 {
+        if self.work != INSERT {
+            return self.over(root, NO);
+        }
+        *self = Judged { work: INSERT, key: self.key, phase: NEW, prev: self.this, side, ..IDLE };
+        GOING
+    }
+
+    /// The walk ends on this slot.
+    #[inline(never)]
+    fn found(&mut self, pairs: &mut Pairs) -> u64 {
+        let Judged { work, key, this, prev, side, .. } = *self;
+        let Some(&[_, word]) = pairs.get(this as usize) else { return DAMAGED };
+        match (work, word & STATE) {
+            (LOOKUP, DATA) => return self.over(&mut pairs[0], YES),
+            (INSERT, DELETED) => return self.restart(),
+            (INSERT, ROUTING) => *self = Judged { work, key, phase: ON_ROUTING, this, ..IDLE },
+            (REMOVE, DATA) => match links(word) {
+                (0, 0) => self.phase = LEAF,
+                (0, right) => *self = Judged { work, key, phase: ONE, this, prev, side, other: right as u64, toward: 1, ..IDLE },
+                (left, 0) => *self = Judged { work, key, phase: ONE, this, prev, side, other: left as u64, ..IDLE },
+                _ => *self = Judged { work, key, phase: TWO, this, ..IDLE },
+            },
+            _ => return self.over(&mut pairs[0], NO),
+        }
+        GOING
     }
 }

@@ -40,8 +40,13 @@ pub fn pack(fields: &[u64; 9], key: &mut u64) -> u64 {
     if !in_range(fields) {
         return 3;
     }
-    *key = fields.iter().zip(WIDTHS).fold(0, |k, (f, w)| k << w | f);
+    *key = join(fields);
     0
+}
+
+/// The fields as one number, whatever they say.
+pub fn join(fields: &[u64; 9]) -> u64 {
+    fields.iter().zip(WIDTHS).fold(0, |k, (f, w)| k << w | f)
 }
 
 fn part(block: &[u8], place: usize, length: usize) -> Option<&[u8]> {

@@ -1,5 +1,7 @@
 // Measures the library's calls against plain code, in one run: ratios of times, or, under `steps count ..`, the same work for
 // valgrind to count. bench/steps builds and runs both.
+#[path = "steps_cases.rs"]
+mod cases;
 #[path = "steps_judged.rs"]
 mod judged;
 #[path = "steps_plain.rs"]
@@ -127,13 +129,13 @@ impl Works for Tree {
     }
 }
 
-/// So many legal keys, in a random order.
-fn keys(n: usize) -> Vec<u64> {
+/// So many legal keys of one day in August, in a random order.
+fn keys(n: usize, day: u64) -> Vec<u64> {
     let mut x = 88172645463325252u64;
     let mut keys: Vec<u64> = Vec::new();
     for i in 0..n as u64 {
         let mut key = 0;
-        let fields = [2024, 6, 15, 10 + i / 3600, i / 60 % 60, i % 60, 0, 1, i];
+        let fields = [2024, 8, day, 10 + i / 3600, i / 60 % 60, i % 60, 0, 1, i];
         assert_eq!(raw::pack(&fields, &mut key), 0);
         keys.push(key);
         x ^= x << 13;
@@ -148,7 +150,7 @@ fn keys(n: usize) -> Vec<u64> {
 fn filled(slots: usize) -> (Library, Vec<u64>) {
     let mut l = Library { words: vec![0; 2 * slots], record: [0; raw::RECORD_WORDS] };
     assert_eq!(raw::fresh(&mut l.words), 0);
-    let keys = keys(slots * 3 / 4);
+    let keys = keys(slots * 3 / 4, 15);
     for key in &keys {
         l.work(INSERT, *key);
     }
@@ -273,6 +275,7 @@ fn count(who: &str, what: &str, slots: usize, n: u64) {
     let j = Table { words: l.words.clone(), record: judged::IDLE };
     let t = Tree(keys.iter().copied().collect());
     let (change, mut words, mut out) = (what == "change", l.words.clone(), vec![0; 2 * slots]);
+    let mut case = cases::table(what, slots);
     let mut one = (1, 1);
     for _ in 0..n {
         match who {
@@ -280,6 +283,7 @@ fn count(who: &str, what: &str, slots: usize, n: u64) {
             "plain" => one = round(&mut p.clone(), &keys, change),
             "judged" => one = round(&mut j.clone(), &keys, change),
             "btree" => one = round(&mut t.clone(), &keys, change),
+            "case" => one.0 = cases::round(what, &mut case.0, &case.1),
             _ => one.0 = 1 + (black_box(between(what, &mut words, &mut out)) & 0),
         }
     }

@@ -8,7 +8,7 @@ mod locks;
 #[path = "steps_plan.rs"]
 mod plan;
 #[path = "steps_rules.rs"]
-mod rules;
+pub mod rules;
 
 use rules::{
     judged_root, legal, legal_at_once, links, links_at_once, pair_fine, root_at_once, root_busy, rooted, Pairs, DATA, DELETED,

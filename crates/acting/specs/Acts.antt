@@ -1,10 +1,12 @@
 -- What an action of the plan comes to by itself, whatever the phase. The walk's two actions are no part of it.
 -- Assumes nothing.
-use mathlib.Core.Bool.{Bool, cond}
+use mathlib.Core.Path.{_≡_}
+use mathlib.Core.Bool.{Bool, true, false, cond}
 use mathlib.Core.List.{List}
 use Prim.Native.Nat.{ℕ}
 use lib.Dec.{eqb}
 use Rattle.table.specs.Pair.{setState, setLink, zeroPair}
+use Rattle.protocol.specs.Step.{readsFine}
 use Rattle.protocol.specs.Stores.{lowestFit, taken}
 use Rattle.protocol.specs.declared.Action.{Action}
 use Rattle.protocol.specs.declared.Action.the-variants.{Visit, Look, Lock, Mark, Link, Take, End, Beyond}
@@ -29,3 +31,11 @@ actOn ws key (Link slot side to) = after Done (setLink ws slot side to)
 actOn ws key (Take prev side) = takes ws key prev side (lowestFit ws)
 actOn ws key End = after (Finished Yes) ws
 actOn ws key Beyond = after (Stopped 6) ws
+
+-- what a quick action promises: where it is done, its pair was fine and it came to this; else nothing changed
+abbrev pub DoneBy : List ℕ → ℕ → Action → Bool → List ℕ → Type 0
+DoneBy ws key a r ws′ = (r ≡ true → (readsFine ws a ≡ true) × (actOn ws key a ≡ after Done ws′)) × (r ≡ false → ws′ ≡ ws)
+
+-- of a new frame's slot alone
+abbrev pub FrameBy : List ℕ → ℕ → ℕ → Bool → Bool → List ℕ → Type 0
+FrameBy ws key prev side r ws′ = (r ≡ true → takes ws key prev side (lowestFit ws) ≡ after Done ws′) × (r ≡ false → ws′ ≡ ws)

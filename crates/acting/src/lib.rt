@@ -1,7 +1,9 @@
-// What a step does in any phase: the rules, and the next action. The phase after it is told, not made: a step of the plan that
+// What a step does in any phase: the rules, and the next action. The phase after it is reported, not built: a step of the plan that
 // goes on only counts one more action.
 ghost use mathlib.Core.Path.{_≡_};
-ghost use Rattle.protocol.specs.Stores.{lowestFit};
+ghost use Rattle.table.specs.Pair.{setLink};
+ghost use Rattle.protocol.specs.Stores.{lowestFit, taken};
+ghost use Rattle.protocol.specs.Walk.{visit};
 ghost use Rattle.protocol.specs.Step.{readsFine};
 ghost use Rattle.acting.specs.Acts.{takes, actOn};
 ghost use Rattle.acting.specs.Moves.{movedOf, thenOf, leaves, settle, planMove, busyMove, stepMove};
@@ -14,6 +16,7 @@ use protocol::Phase;
 use protocol::Work;
 use table::DATA;
 
+pub mod quick;
 mod walking;
 
 // What a step comes to: the phase has one more action done, or is another; the work is over, with an answer; or the step is
@@ -23,6 +26,15 @@ pub enum Moved {
     To(Phase),
     Over(Answer),
     Stays(u64),
+}
+
+// Slot f gets key and state data, and is linked.
+fn put_frame(words: &mut [u64], f: u64, key: u64, prev: u64, side: bool)
+    ensures { λ _. ⌜ now (words .exit) ≡ setLink (taken (now (words .entry)) f key) prev side f ⌝ }
+{
+    table::set_key(words, f, key);
+    table::set_state(words, f, DATA);
+    table::set_link(words, prev, side, f);
 }
 
 // A new frame's slot: the lowest that is free gets key and state data, and is linked.
@@ -36,9 +48,7 @@ fn take(words: &mut [u64], key: u64, prev: u64, side: bool) -> Acted
     if !table::zero_pair(words, f) {
         return Acted::Stopped(6);
     }
-    table::set_key(words, f, key);
-    table::set_state(words, f, DATA);
-    table::set_link(words, prev, side, f);
+    put_frame(words, f, key, prev, side);
     Acted::Done
 }
 
@@ -134,6 +144,22 @@ fn move_of(o: Outcome) -> Moved
         Outcome::Ends(a) => Moved::Over(a),
         Outcome::Refuses(n) => Moved::Stays(n),
     }
+}
+
+// What a walk comes to at a slot, where the rules let it: for a caller that has judged them.
+pub fn visited(
+    words: &[u64],
+    kind: Kind,
+    key: u64,
+    at: u64,
+    prev: u64,
+    before: u64,
+    side: bool,
+    up: bool,
+) -> Moved
+    ensures { λ r. ⌜ r ≡ movedOf (visit (now (words .entry)) kind key at prev before side up) ⌝ }
+{
+    move_of(walking::visited(words, kind, key, at, prev, before, side, up))
 }
 
 // Rule 6 and what the phase does. A walk, which most steps are, asks nothing of the plan.

@@ -1,14 +1,24 @@
 -- A call on a lent record: 1, then 6 for words that are no record, then the call on the record that they are.
 -- Assumes nothing.
 use mathlib.Core.Path.{_≡_}
-use mathlib.Core.Bool.{cond}
+use mathlib.Core.Bool.{true, cond, not, _&&_}
 use mathlib.Core.List.{List}
 use Prim.Native.Nat.{ℕ}
+use lib.Dec.{leb, eqb}
+use Rattle.table.specs.Pair.{busyOf}
 use Rattle.moment.specs.Said.{Said}
 use Rattle.table.specs.Rules.{tableFine}
 use Rattle.protocol.specs.Step.{Call, idleWorker}
+use Rattle.protocol.specs.declared.Kind.{Kind}
+use Rattle.protocol.specs.declared.Kind.the-variants.{Lookup, Insert, Remove}
 use Rattle.protocol.specs.declared.Work.{Work}
-use Rattle.records.specs.Records.{wordsOf, isRecord, putRecord, countOn}
+use Rattle.protocol.specs.declared.Work.the-variants.{Idle, Busy}
+use Rattle.protocol.specs.declared.Phase.{Phase}
+use Rattle.protocol.specs.declared.Worker.{Worker}
+use Rattle.protocol.specs.declared.Action.{Action}
+use Rattle.protocol.specs.declared.Action.the-variants.{Beyond}
+use Rattle.plan.specs.Due.{dueOf}
+use Rattle.records.specs.Records.{wordsOf, isRecord, putRecord, isIdle, countOn}
 use Rattle.acting.specs.declared.Moved.{Moved}
 use Rattle.acting.specs.declared.Moved.the-variants.{On, To, Over, Stays}
 
@@ -38,3 +48,19 @@ putMoved s work key On = countOn s
 putMoved s work key (To p) = putRecord s (record { work = work; key = key; phase = p })
 putMoved s work key (Over a) = putRecord s idleWorker
 putMoved s work key (Stays n) = s
+
+-- the kind of work that a busy record's first word says
+unfoldable pub kindAt : ℕ → Kind
+kindAt n = cond (eqb n 1) Lookup (cond (eqb n 2) Insert Remove)
+
+-- the action that is due in a record, where its roles are fine and its phase has a plan
+abbrev pub dueWork : ℕ → Work → Phase → Action
+dueWork n Idle p = Beyond
+dueWork n (Busy kind) p = dueOf n kind p
+
+unfoldable pub dueIn : ℕ → Worker → Action
+dueIn n w = dueWork n (w .work) (w .phase)
+
+-- what is told at once before a start: an idle record's zeros, no refusal 1 and a free seat
+abbrev pub OpensAtOnce : List ℕ → List ℕ → Type 0
+OpensAtOnce ws s = (isIdle s ≡ true) × ((tableFine ws && not (leb 16 (busyOf ws))) ≡ true)

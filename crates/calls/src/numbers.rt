@@ -11,11 +11,11 @@ use tree::Checked;
 // Going, done, or a value that is handed back beside the number.
 pub const FINE: u64 = 0;
 
-const FULL: u64 = 5;
+pub const FULL: u64 = 5;
 
-const YES: u64 = 16;
+pub const YES: u64 = 16;
 
-const NO: u64 = 17;
+pub const NO: u64 = 17;
 
 pub fn of_answer(a: Answer) -> u64
     ensures { λ r. ⌜ r ≡ verdictNumber (answerSays a) ⌝ }

@@ -9,18 +9,20 @@ use native.Mathlib.Omega.{arith}
 use native.Mathlib.Decide.{ℕ-discrete}
 use lib.Dec.{leb}
 use lib.ListN.{getD, length}
-use borrow.Author.Tests.{leb-false}
+use borrow.Author.Tests.{leb-true, leb-false}
 use Rattle.protocol.specs.Plan.{plan, actionAt}
-use Rattle.protocol.specs.Locks.{allHeld, released}
+use Rattle.protocol.specs.Locks.{heldOne, releaseOne, allHeld, released}
 use Rattle.protocol.specs.declared.Phase.{Phase}
 use Rattle.protocol.specs.declared.Phase.the-variants.{Walk, OnRouting, New, Two, One, Leaf, UnderData, UnderRouting}
 use Rattle.protocol.specs.declared.Action.{Action}
 use Rattle.protocol.specs.declared.Action.the-variants.{Beyond}
 use Rattle.plan.specs.First.{locksOf}
+use Rattle.plan.specs.Holds.{holdIn}
 use Rattle.protocol.proofs.Together.Wishes.{All}
 use Rattle.plan.proofs.Actions.{all-at}
+use Rattle.locks.specs.Holding.{heldBy, freedBy}
 use Rattle.locks.specs.Taking.{atMost}
-use Rattle.locks.proofs.Other.{Frees, free-held, free-released}
+use Rattle.locks.proofs.Takes.{Frees, Takes, free-held, free-released, lock-held, lock-freed}
 
 -- a plan without its first n actions
 past : ℕ → List Action → List Action
@@ -51,9 +53,6 @@ upto : ℕ → List Action → List Action
 upto zero l = []
 upto (suc n) [] = []
 upto (suc n) (a ∷ rest) = a ∷ upto n rest
-
-abbrev Takes : Action → Type 0
-Takes a = Frees a → ⊥
 
 upto-at : (n : ℕ) (l : List Action) → All Takes (upto n l) → n ≤ length l → (i : ℕ) → i < n → Takes (getD l i Beyond)
 unfolding upto
@@ -96,6 +95,20 @@ beyond-locks ws p (suc n) h = go (ℕ-discrete (locksOf p) (suc n)) (beyond-lock
         let l : locksOf p ≤ n = omega (arith, h, d) in
         let f = after-locks p n l in
         (r l .0 ∙ sym (rw (free-held ws (actionAt p n) f) (and-true (allHeld ws p n))), r l .1 ∙ sym (free-released (released ws p n) (actionAt p n) f))
+
+-- and each of the locks is judged and given up by what it holds
+pub held-at : (ws : List ℕ) (p : Phase) (i : ℕ) → i < locksOf p → heldBy ws (holdIn (actionAt p i)) ≡ heldOne ws (actionAt p i)
+held-at ws p i h = lock-held ws (actionAt p i) (before-stores p i h)
+
+pub freed-at : (ws : List ℕ) (p : Phase) (i : ℕ) → i < locksOf p → freedBy ws (holdIn (actionAt p i)) ≡ releaseOne ws (actionAt p i)
+freed-at ws p i h = lock-freed ws (actionAt p i) (before-stores p i h)
+
+pub at-most-le : (n most : ℕ) → atMost n most ≤ most
+at-most-le n most = go (leb n most) refl
+  where
+    go : (b : Bool) → leb n most ≡ b → cond b n most ≤ most
+    go true e = leb-true n most e
+    go false e = omega arith
 
 -- SO GIVING UP NEED NOT ASK FOR MORE
 pub locks-first : (ws : List ℕ) (p : Phase) (n : ℕ) → Same ws p (atMost n (locksOf p)) n

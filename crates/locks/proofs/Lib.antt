@@ -1,3 +1,4 @@
 pub mod First
-pub mod Other
+pub mod Takes
+pub mod Quick
 pub mod OneOutcome

@@ -1,11 +1,13 @@
 -- A lock that is asked for, and locks given up, before it is settled what becomes of the phase: `lockStep` and `giveUp` without
 -- their phases. `acting/proofs/MoveLaws.antt` has that, settled, a step is the protocol's.
 -- Assumes nothing.
-use mathlib.Core.Bool.{Bool, cond}
+use mathlib.Core.Path.{_≡_}
+use mathlib.Core.Bool.{Bool, true, false, cond}
 use mathlib.Core.List.{List}
 use Prim.Native.Nat.{ℕ, _+_}
 use lib.Dec.{leb}
 use Rattle.table.specs.Pair.{lockOf, setLock}
+use Rattle.table.specs.Rules.{pairFine}
 use Rattle.table.specs.declared.Which.{Which}
 use Rattle.protocol.specs.Locks.{weight, crowded, granted, allHeld, released}
 use Rattle.protocol.specs.declared.Phase.{Phase}
@@ -29,6 +31,11 @@ takeLock ws slot which write state links =
     (after (Stopped 9) ws)
     (after Done (setLock ws slot which (lockOf ws slot which + weight write))))
     (after Denied ws)
+
+-- what a quick taking promises: where it is done, its pair was fine and it came to this; else nothing changed
+abbrev pub TakenBy : List ℕ → ℕ → Which → Bool → ℕ → Links → Bool → List ℕ → Type 0
+TakenBy ws slot which write state links r ws′ =
+    (r ≡ true → (pairFine ws slot ≡ true) × (takeLock ws slot which write state links ≡ after Done ws′)) × (r ≡ false → ws′ ≡ ws)
 
 -- a number, or the most that it may be
 abbrev pub atMost : ℕ → ℕ → ℕ

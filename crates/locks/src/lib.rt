@@ -1,11 +1,12 @@
 // Locks: taking one, and giving up all that are held. Each function takes any words and any numbers, and promises the protocol's
-// definition, or its part before a phase is settled (specs/Taking.antt).
+// definition, its part before a phase is settled (specs/Taking.antt), or that of one hold (specs/Holding.antt).
 ghost use mathlib.Core.Path.{_≡_};
 ghost use Prim.Native.Nat.{_-_};
-ghost use Rattle.protocol.specs.Locks.{stateFits, linksFit, clear, holds, weight, crowded, granted, heldOne, releaseOne, allHeld, released};
-ghost use Rattle.locks.specs.Taking.{atMost, givenUp, takeLock};
+ghost use Rattle.protocol.specs.Locks.{stateFits, linksFit, clear, holds, weight, crowded, granted, allHeld, released};
+ghost use Rattle.locks.specs.Holding.{heldBy, freedBy};
+ghost use Rattle.locks.specs.Taking.{atMost, givenUp, takeLock, TakenBy};
+use plan::Hold;
 use plan::PRESENT;
-use protocol::Action;
 use protocol::Answer;
 use protocol::Links;
 use protocol::Phase;
@@ -83,54 +84,25 @@ fn is_granted(words: &[u64], slot: u64, which: Which, write: bool, state: u64, l
     state_fits(state, s) & links_fit(words, slot, links) & is_clear(write, x)
 }
 
-fn held_one(words: &[u64], a: Action) -> bool
-    ensures { λ r. ⌜ r ≡ heldOne (now (words .entry)) a ⌝ }
+fn held_one(words: &[u64], h: Hold) -> bool
+    ensures { λ r. ⌜ r ≡ heldBy (now (words .entry)) h ⌝ }
 {
-    match a {
-        Action::Lock(slot, which, write, _, _) => {
-            let x = table::lock(words, slot, which);
-            table::pair_fine(words, slot) & is_held(write, x)
-        }
-        _ => true,
-    }
+    let slot = h.slot;
+    let which = h.which;
+    let write = h.write;
+    let x = table::lock(words, slot, which);
+    table::pair_fine(words, slot) & is_held(write, x)
 }
 
-fn release_one(words: &mut [u64], a: Action)
-    ensures { λ _. ⌜ now (words .exit) ≡ releaseOne (now (words .entry)) a ⌝ }
+fn release_one(words: &mut [u64], h: Hold)
+    ensures { λ _. ⌜ now (words .exit) ≡ freedBy (now (words .entry)) h ⌝ }
 {
-    match a {
-        Action::Lock(slot, which, write, _, _) => {
-            let x = table::lock(words, slot, which);
-            let y = less(x, weight_of(write));
-            table::set_lock(words, slot, which, y);
-        }
-        _ => {}
-    }
-}
-
-// Are the locks of the first `done` actions held, in pairs that are fine?
-pub fn all_held(words: &[u64], phase: Phase, done: u64) -> bool
-    ensures { λ r. ⌜ r ≡ allHeld (now (words .entry)) phase done ⌝ }
-{
-    let mut ok = true;
-    let mut i: u64 = 0;
-    while i < done {
-        let a = plan::action_at(phase, i);
-        ok = ok & held_one(words, a);
-        i += 1;
-    }
-    ok
-}
-
-pub fn release_all(words: &mut [u64], phase: Phase, done: u64)
-    ensures { λ _. ⌜ now (words .exit) ≡ released (now (words .entry)) phase done ⌝ }
-{
-    let mut i: u64 = 0;
-    while i < done {
-        let a = plan::action_at(phase, i);
-        release_one(words, a);
-        i += 1;
-    }
+    let slot = h.slot;
+    let which = h.which;
+    let write = h.write;
+    let x = table::lock(words, slot, which);
+    let y = less(x, weight_of(write));
+    table::set_lock(words, slot, which, y);
 }
 
 fn at_most(n: u64, most: u64) -> u64
@@ -139,16 +111,42 @@ fn at_most(n: u64, most: u64) -> u64
     if n <= most { n } else { most }
 }
 
-// All locks held are judged, then all are given up: true; or one is not held, and nothing changes. The plan's locks come first:
-// no action after them is asked for.
+// Are the locks of the first `done` actions held, in pairs that are fine? The plan's locks come first: no action after them is
+// asked for.
+pub fn all_held(words: &[u64], phase: Phase, done: u64) -> bool
+    ensures { λ r. ⌜ r ≡ allHeld (now (words .entry)) phase done ⌝ }
+{
+    let asked = at_most(done, plan::locks_of(phase));
+    let mut ok = true;
+    let mut i: u64 = 0;
+    while i < asked {
+        let h = plan::hold_at(phase, i);
+        ok = ok & held_one(words, h);
+        i += 1;
+    }
+    ok
+}
+
+pub fn release_all(words: &mut [u64], phase: Phase, done: u64)
+    ensures { λ _. ⌜ now (words .exit) ≡ released (now (words .entry)) phase done ⌝ }
+{
+    let held = at_most(done, plan::locks_of(phase));
+    let mut i: u64 = 0;
+    while i < held {
+        let h = plan::hold_at(phase, i);
+        release_one(words, h);
+        i += 1;
+    }
+}
+
+// All locks held are judged, then all are given up: true; or one is not held, and nothing changes.
 pub fn give_up(words: &mut [u64], phase: Phase, done: u64) -> bool
     ensures { λ r. ⌜ (r ≡ allHeld (now (words .entry)) phase done) × (now (words .exit) ≡ givenUp (now (words .entry)) phase done) ⌝ }
 {
-    let n = at_most(done, plan::locks_of(phase));
-    if !all_held(words, phase, n) {
+    if !all_held(words, phase, done) {
         return false;
     }
-    release_all(words, phase, n);
+    release_all(words, phase, done);
     true
 }
 
@@ -173,4 +171,31 @@ pub fn take_lock(
     let y = x + weight_of(write);
     table::set_lock(words, slot, which, y);
     Acted::Done
+}
+
+// Takes the lock where the slot's pair is told fine at once and the lock is granted; else nothing changes, and it is not told
+// why.
+pub fn take_quick(
+    words: &mut [u64],
+    slot: u64,
+    which: Which,
+    write: bool,
+    state: u64,
+    links: Links,
+) -> bool
+    ensures { λ r. ⌜ TakenBy (now (words .entry)) slot which write state links r (now (words .exit)) ⌝ }
+{
+    if !table::pair_quick(words, slot) {
+        return false;
+    }
+    if !is_granted(words, slot, which, write, state, links) {
+        return false;
+    }
+    let held = table::lock(words, slot, which);
+    if is_crowded(write, held) {
+        return false;
+    }
+    let y = held + weight_of(write);
+    table::set_lock(words, slot, which, y);
+    true
 }

@@ -2,9 +2,9 @@
 -- Assumes nothing.
 use mathlib.Core.Bool.{Bool, cond, _&&_}
 use mathlib.Core.List.{List, [], _∷_}
-use Prim.Native.Nat.{ℕ, _^_}
+use Prim.Native.Nat.{ℕ, _*_, _^_}
 use lib.Dec.{leb, ltb}
-use Rattle.layout.specs.Layout.{fld, enc}
+use Rattle.layout.specs.Layout.{pos, fld, enc}
 use Rattle.moment.specs.Said.{Said, gives, refuses}
 use Rattle.moment.specs.Calendar.{momentExists}
 use Rattle.moment.specs.declared.Fields.{Fields}
@@ -60,6 +60,13 @@ fieldsOf key =
 -- a legal key: a number of 64 bits whose fields are in range
 unfoldable pub legalOf : ℕ → Bool
 legalOf key = ltb key (2 ^ 64) && inRange (fieldsOf key)
+
+-- the first moment of 1990, and how many numbers the 1010 years from then on take
+abbrev pub firstKey : ℕ
+firstKey = enc keyLayout (1990 ∷ 1 ∷ 1 ∷ [])
+
+abbrev pub yearsOfKeys : ℕ
+yearsOfKeys = 1010 * 2 ^ pos keyLayout 0
 
 -- packing: the key, or 3 for fields out of range
 unfoldable pub packs : Fields → Said ℕ

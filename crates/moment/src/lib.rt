@@ -2,9 +2,10 @@
 // down. Nothing here refuses by itself but `pack`, and every function answers for any numbers.
 ghost use mathlib.Core.Path.{_≡_};
 ghost use mathlib.Core.Bool.{_&&_};
+ghost use Prim.Native.Nat.{_+_, _<_};
 ghost use lib.Dec.{leb};
 ghost use Rattle.moment.specs.Calendar.{leapOf, daysIn, dateExists, timeExists, momentExists};
-ghost use Rattle.moment.specs.Key.{keyLayout, listed, momentOf, inRange, keyOfFields, packs, packedSays, fieldsOf, legalOf};
+ghost use Rattle.moment.specs.Key.{keyLayout, listed, momentOf, inRange, keyOfFields, packs, packedSays, fieldsOf, legalOf, firstKey, yearsOfKeys};
 ghost use Rattle.layout.specs.Layout.{Fit};
 
 // The fields of a key, in the order in which they are packed.
@@ -36,27 +37,84 @@ pub enum Packed {
     Refused(u64),
 }
 
-// Where the fields begin in a key, from the top bit down; the file number begins at 1.
-const YEAR: u64 = 4503599627370496;
+// How many values the bits of each field can say, by its width.
+const YEARS: u64 = 1 << 12;
 
-const MONTH: u64 = 281474976710656;
+const MONTHS: u64 = 1 << 4;
 
-const DAY: u64 = 8796093022208;
+const DAYS: u64 = 1 << 5;
 
-const HOUR: u64 = 274877906944;
+const HOURS: u64 = 1 << 5;
 
-const MINUTE: u64 = 4294967296;
+const MINUTES: u64 = 1 << 6;
 
-const SECOND: u64 = 67108864;
+const SECONDS: u64 = 1 << 6;
 
-const HUNDREDTH: u64 = 524288;
+const HUNDREDTHS: u64 = 1 << 7;
 
-const CAMERA: u64 = 16384;
+const CAMERAS: u64 = 1 << 5;
 
-// The first key of 1990, and of 3000.
-const FIRST: u64 = 8962163258467287040;
+const NUMBERS: u64 = 1 << 14;
 
-const BEYOND: u64 = 13510798882111488000;
+// Where the fields begin in a key, from the lowest bit up; the file number begins at 1.
+const CAMERA: u64 = NUMBERS;
+
+const HUNDREDTH: u64 = CAMERA * CAMERAS;
+
+const SECOND: u64 = HUNDREDTH * HUNDREDTHS;
+
+const MINUTE: u64 = SECOND * SECONDS;
+
+const HOUR: u64 = MINUTE * MINUTES;
+
+const DAY: u64 = HOUR * HOURS;
+
+const MONTH: u64 = DAY * DAYS;
+
+const YEAR: u64 = MONTH * MONTHS;
+
+// The least and the most of the fields. Months and days begin at 1, all others at 0; every month has the days to SURE_DAY.
+const LEAST_YEAR: u64 = 1990;
+
+const MOST_YEAR: u64 = 2999;
+
+const MOST_MONTH: u64 = 12;
+
+const SURE_DAY: u64 = 28;
+
+const MOST_HOUR: u64 = 23;
+
+const MOST_MINUTE: u64 = 59;
+
+const MOST_SECOND: u64 = 59;
+
+const MOST_HUNDREDTH: u64 = 99;
+
+const MOST_CAMERA: u64 = 31;
+
+const MOST_NUMBER: u64 = 9999;
+
+// The first moment of the first year, and of the year after the last: month 1, day 1.
+const LEAST: u64 = LEAST_YEAR * YEAR + MONTH + DAY;
+
+const END: u64 = LEAST + (MOST_YEAR + 1 - LEAST_YEAR) * YEAR;
+
+// The last frame of a day.
+const LAST: u64 = MOST_HOUR * HOUR
+    + MOST_MINUTE * MINUTE
+    + MOST_SECOND * SECOND
+    + MOST_HUNDREDTH * HUNDREDTH
+    + MOST_CAMERA * CAMERA
+    + MOST_NUMBER;
+
+// What each field below the year lacks to its size when it is at its most, counted from its least: 4 months, 4 days,
+// 8 hours, 4 minutes, 4 seconds, 28 hundredths, no camera, 6384 file numbers. All even. Late: no slack for the day.
+const LATE_SLACK: u64 = YEAR - MOST_MONTH * MONTH + DAY - 1 - LAST;
+
+const SLACK: u64 = LATE_SLACK + MONTH - SURE_DAY * DAY;
+
+// The lowest bit of each field but the file number.
+const LOWEST: u64 = YEAR + MONTH + DAY + HOUR + MINUTE + SECOND + HUNDREDTH + CAMERA;
 
 // Is it a leap year?
 pub fn leap(year: u64) -> bool
@@ -81,24 +139,24 @@ pub fn days_in(year: u64, month: u64) -> u64
 fn day_exists(year: u64, month: u64, day: u64) -> bool
     ensures { λ r. ⌜ r ≡ (leb 1 day && leb day (daysIn year month)) ⌝ }
 {
-    if (1 <= day) & (day <= 28) {
-        return (1 <= month) & (month <= 12);
+    if (1 <= day) & (day <= SURE_DAY) {
+        return (1 <= month) & (month <= MOST_MONTH);
     }
-    (28 < day) & (day <= days_in(year, month))
+    (SURE_DAY < day) & (day <= days_in(year, month))
 }
 
 // Is it a Gregorian date of the years 1990 to 2999?
 pub fn date_exists(year: u64, month: u64, day: u64) -> bool
     ensures { λ r. ⌜ r ≡ dateExists year month day ⌝ }
 {
-    (1990 <= year) & (year <= 2999) & day_exists(year, month, day)
+    (LEAST_YEAR <= year) & (year <= MOST_YEAR) & day_exists(year, month, day)
 }
 
 // Is it a time of day?
 pub fn time_exists(hour: u64, minute: u64, second: u64) -> bool
     ensures { λ r. ⌜ r ≡ timeExists hour minute second ⌝ }
 {
-    (hour <= 23) & (minute <= 59) & (second <= 59)
+    (hour <= MOST_HOUR) & (minute <= MOST_MINUTE) & (second <= MOST_SECOND)
 }
 
 // Is it a date and a time of day?
@@ -126,7 +184,10 @@ pub fn moment_of(f: Fields) -> Moment
 pub fn in_range(f: Fields) -> bool
     ensures { λ r. ⌜ r ≡ inRange f ⌝ }
 {
-    moment_exists(moment_of(f)) & (f.hundredth <= 99) & (f.camera <= 31) & (f.number <= 9999)
+    moment_exists(moment_of(f))
+        & (f.hundredth <= MOST_HUNDREDTH)
+        & (f.camera <= MOST_CAMERA)
+        & (f.number <= MOST_NUMBER)
 }
 
 // The fields put side by side, from the top bit down.
@@ -134,9 +195,9 @@ fn joined(f: Fields) -> u64
     requires { ⌜ Fit keyLayout (listed f) ⌝ }
     ensures { λ r. ⌜ r ≡ keyOfFields f ⌝ }
 {
-    let date = (f.year * 16 + f.month) * 32 + f.day;
-    let time = ((date * 32 + f.hour) * 64 + f.minute) * 64 + f.second;
-    ((time * 128 + f.hundredth) * 32 + f.camera) * 16384 + f.number
+    let date = (f.year * MONTHS + f.month) * DAYS + f.day;
+    let time = ((date * HOURS + f.hour) * MINUTES + f.minute) * SECONDS + f.second;
+    ((time * HUNDREDTHS + f.hundredth) * CAMERAS + f.camera) * NUMBERS + f.number
 }
 
 // The key of the fields, or 3 where one is out of range.
@@ -154,29 +215,40 @@ pub fn unpack(key: u64) -> Fields
     ensures { λ r. ⌜ r ≡ fieldsOf key ⌝ }
 {
     Fields {
-        year: key / YEAR % 4096,
-        month: key / MONTH % 16,
-        day: key / DAY % 32,
-        hour: key / HOUR % 32,
-        minute: key / MINUTE % 64,
-        second: key / SECOND % 64,
-        hundredth: key / HUNDREDTH % 128,
-        camera: key / CAMERA % 32,
-        number: key % 16384,
+        year: key / YEAR % YEARS,
+        month: key / MONTH % MONTHS,
+        day: key / DAY % DAYS,
+        hour: key / HOUR % HOURS,
+        minute: key / MINUTE % MINUTES,
+        second: key / SECOND % SECONDS,
+        hundredth: key / HUNDREDTH % HUNDREDTHS,
+        camera: key / CAMERA % CAMERAS,
+        number: key % NUMBERS,
     }
 }
 
-// Is the key legal? The years are bounds of the key itself, and the camera's bits hold none that is out of range.
+// A key that may have one of the last days of a month: its sum leaves the day open, and the month's length decides.
+fn last_day_exists(key: u64, k: u64) -> bool
+    requires { ⌜ (key ≡ k + firstKey) × (k < yearsOfKeys) ⌝ }
+    ensures { λ r. ⌜ r ≡ legalOf key ⌝ }
+{
+    if (k + LATE_SLACK) & LOWEST != k & LOWEST {
+        return false;
+    }
+    day_exists(key / YEAR % YEARS, key / MONTH % MONTHS, key / DAY % DAYS)
+}
+
+// Is the key legal? By one sum. Less the first moment of 1990 every field counts from 0; with SLACK added, a field that is
+// over its most, and no other, carries into the lowest bit of the field above. Nearly all keys have a day to the 28th.
 pub fn legal(key: u64) -> bool
     ensures { λ r. ⌜ r ≡ legalOf key ⌝ }
 {
-    let time = time_exists(key / HOUR % 32, key / MINUTE % 64, key / SECOND % 64);
-    if !((FIRST <= key)
-        & (key < BEYOND)
-        & time
-        & (key / HUNDREDTH % 128 < 100)
-        & (key % 16384 < 10000)) {
+    if !((LEAST <= key) & (key < END)) {
         return false;
     }
-    day_exists(key / YEAR % 4096, key / MONTH % 16, key / DAY % 32)
+    let k = key - LEAST;
+    if (k + SLACK) & LOWEST == k & LOWEST {
+        return true;
+    }
+    last_day_exists(key, k)
 }

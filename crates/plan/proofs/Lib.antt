@@ -1,5 +1,6 @@
 pub mod Actions
 pub mod DueLaws
+pub mod HoldLaws
 pub mod LiftLaws
 pub mod RoleLaws
 pub mod OneOutcome

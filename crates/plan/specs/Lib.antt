@@ -1,3 +1,4 @@
 pub mod Due
 pub mod First
+pub mod Holds
 pub mod Lifts

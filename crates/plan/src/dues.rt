@@ -1,9 +1,11 @@
 // The action that is due, of a phase that is taken apart once: its roles are judged, and its action found, by its
-// numbers. What `_` leaves: phases that walk, that look, or that are of another kind of work; of these none is due.
+// numbers. Each phase that counts its actions has a function by numbers: whoever has taken the phase apart asks it
+// without the phase. What `_` leaves: phases that walk, that look, or that are of another kind of work; of these none
+// is due.
 ghost use mathlib.Core.Path.{_≡_};
 ghost use mathlib.Core.Bool.{cond};
 ghost use Rattle.protocol.specs.declared.Kind.the-variants.{Insert, Remove};
-ghost use Rattle.protocol.specs.declared.Phase.the-variants.{One, UnderRouting};
+ghost use Rattle.protocol.specs.declared.Phase.the-variants.{OnRouting, New, Two, One, UnderData, UnderRouting};
 ghost use Rattle.protocol.specs.declared.Action.the-variants.{Beyond};
 ghost use Rattle.plan.specs.Due.{dueOf};
 use crate::cases;
@@ -20,24 +22,49 @@ fn due_if(fine: bool, a: Action) -> Action
     Action::Beyond
 }
 
+pub fn on_routing_due(n: u64, this: u64, done: u64) -> Action
+    ensures { λ r. ⌜ r ≡ dueOf n Insert (OnRouting this done) ⌝ }
+{
+    due_if(
+        roles::state_roles(n, this, done),
+        cases::on_routing_at(this, done),
+    )
+}
+
+pub fn new_due(n: u64, prev: u64, side: bool, done: u64) -> Action
+    ensures { λ r. ⌜ r ≡ dueOf n Insert (New prev side done) ⌝ }
+{
+    due_if(
+        roles::new_roles(n, prev, done),
+        cases::new_at(prev, side, done),
+    )
+}
+
 pub fn insert_due(n: u64, phase: Phase) -> Action
     ensures { λ r. ⌜ r ≡ dueOf n Insert phase ⌝ }
 {
     match phase {
-        Phase::OnRouting { this, done } => due_if(
-            roles::state_roles(n, this, done),
-            cases::on_routing_at(this, done),
-        ),
-        Phase::New { prev, side, done } => due_if(
-            roles::new_roles(n, prev, done),
-            cases::new_at(prev, side, done),
-        ),
+        Phase::OnRouting { this, done } => on_routing_due(n, this, done),
+        Phase::New { prev, side, done } => new_due(n, prev, side, done),
         _ => Action::Beyond,
     }
 }
 
-// The two that lift a child, by themselves: they note most.
-fn one_due(n: u64, this: u64, prev: u64, side: bool, child: u64, toward: bool, done: u64) -> Action
+pub fn two_due(n: u64, this: u64, done: u64) -> Action
+    ensures { λ r. ⌜ r ≡ dueOf n Remove (Two this done) ⌝ }
+{
+    due_if(roles::state_roles(n, this, done), cases::two_at(this, done))
+}
+
+pub fn one_due(
+    n: u64,
+    this: u64,
+    prev: u64,
+    side: bool,
+    child: u64,
+    toward: bool,
+    done: u64,
+) -> Action
     ensures { λ r. ⌜ r ≡ dueOf n Remove (One this prev side child toward done) ⌝ }
 {
     due_if(
@@ -46,7 +73,16 @@ fn one_due(n: u64, this: u64, prev: u64, side: bool, child: u64, toward: bool, d
     )
 }
 
-fn under_routing_due(
+pub fn under_data_due(n: u64, this: u64, prev: u64, side: bool, done: u64) -> Action
+    ensures { λ r. ⌜ r ≡ dueOf n Remove (UnderData this prev side done) ⌝ }
+{
+    due_if(
+        roles::under_data_roles(n, this, prev, done),
+        cases::under_data_at(this, prev, side, done),
+    )
+}
+
+pub fn under_routing_due(
     n: u64,
     this: u64,
     prev: u64,
@@ -68,10 +104,7 @@ pub fn remove_due(n: u64, phase: Phase) -> Action
     ensures { λ r. ⌜ r ≡ dueOf n Remove phase ⌝ }
 {
     match phase {
-        Phase::Two { this, done } => due_if(
-            roles::state_roles(n, this, done),
-            cases::two_at(this, done),
-        ),
+        Phase::Two { this, done } => two_due(n, this, done),
         Phase::One {
             this,
             prev,
@@ -85,10 +118,7 @@ pub fn remove_due(n: u64, phase: Phase) -> Action
             prev,
             side,
             done,
-        } => due_if(
-            roles::under_data_roles(n, this, prev, done),
-            cases::under_data_at(this, prev, side, done),
-        ),
+        } => under_data_due(n, this, prev, side, done),
         Phase::UnderRouting {
             this,
             prev,

@@ -1,21 +1,27 @@
 // The plan in code: the action at each place of each case, the count of actions done, and the rules of a record. Each
 // promises the protocol's definition, or one of specs/ that is made of these.
 ghost use mathlib.Core.Path.{_≡_};
-ghost use mathlib.Core.Bool.{true};
+ghost use mathlib.Core.Bool.{true, _&&_};
+ghost use Prim.Native.Nat.{_<_};
+ghost use Rattle.moment.specs.Key.{legalOf};
+ghost use Rattle.table.specs.Pair.{slotsOf};
 ghost use Rattle.protocol.specs.Plan.{atRoot, actionAt, doneOf, withDone, isStore};
-ghost use Rattle.protocol.specs.Record.{recordFine};
+ghost use Rattle.protocol.specs.Record.{roles, recordFine};
 ghost use Rattle.protocol.specs.Calls.{stored};
 ghost use Rattle.protocol.specs.declared.Kind.the-variants.{Lookup};
 ghost use Rattle.protocol.specs.declared.Phase.the-variants.{Walk};
 ghost use Rattle.plan.specs.Due.{dueOf};
 ghost use Rattle.plan.specs.First.{locksOf};
+ghost use Rattle.plan.specs.Holds.{holdIn};
 ghost use Rattle.plan.specs.Lifts.{Lifts};
 use protocol::Action;
 use protocol::Kind;
 use protocol::Phase;
+use table::Which;
 
 mod cases;
-mod dues;
+pub mod dues;
+mod holds;
 mod roles;
 
 // As an expected state: not deleted.
@@ -177,6 +183,46 @@ pub fn locks_of(phase: Phase) -> u64
     }
 }
 
+// What a lock holds: one lock of a slot, written or read.
+pub struct Hold {
+    pub slot: u64,
+    pub which: Which,
+    pub write: bool,
+}
+
+// What the lock at a place holds, of a place before the stores.
+pub fn hold_at(phase: Phase, i: u64) -> Hold
+    ensures { λ r. ⌜ (i < locksOf phase → r ≡ holdIn (actionAt phase i)) ⌝ }
+{
+    match phase {
+        Phase::OnRouting { this, .. } => holds::state(this, true),
+        Phase::New { prev, side, .. } => holds::new_hold(prev, side, i),
+        Phase::Two { this, .. } => holds::state(this, true),
+        Phase::One {
+            this,
+            prev,
+            side,
+            toward,
+            ..
+        } => holds::one_hold(this, prev, side, toward, i),
+        Phase::UnderData {
+            this,
+            prev,
+            side,
+            ..
+        } => holds::under_data_hold(this, prev, side, i),
+        Phase::UnderRouting {
+            this,
+            prev,
+            side,
+            before,
+            up,
+            ..
+        } => holds::under_routing_hold(this, prev, side, before, up, i),
+        _ => holds::state(0, true),
+    }
+}
+
 fn is_store(a: Action) -> bool
     ensures { λ r. ⌜ r ≡ isStore a ⌝ }
 {
@@ -217,4 +263,14 @@ pub fn walk_fine(words: &[u64], key: u64, at: u64, prev: u64, before: u64) -> bo
     moment::legal(key)
         & roles::walk_roles(table::slots(words), at, prev, before)
         & (table::busy(words) != 0)
+}
+
+// The same but for the busy count, for a caller that has judged that with the table.
+pub fn walk_quick(words: &[u64], key: u64, at: u64, prev: u64, before: u64) -> bool
+    ensures { λ r. ⌜ r ≡ (legalOf key && roles (slotsOf (now (words .entry))) Lookup (Walk at prev before true true)) ⌝ }
+{
+    if !moment::legal(key) {
+        return false;
+    }
+    roles::walk_roles(table::slots(words), at, prev, before)
 }

@@ -5,3 +5,5 @@ pub mod Walks
 pub mod Removers
 pub mod OneOutcome
 pub mod Counts
+pub mod TakenApart
+pub mod Idle

@@ -18,6 +18,8 @@ use Rattle.protocol.specs.declared.Worker.{Worker}
 use Rattle.records.specs.declared.Flat.{Flat}
 use Rattle.records.specs.declared.Lent.{Lent}
 use Rattle.records.specs.declared.Lent.the-variants.{Record, Nothing}
+use Rattle.records.specs.declared.Parts.{Parts}
+use Rattle.records.specs.declared.Parts.the-variants as parts
 
 -- From a record to words
 
@@ -165,13 +167,23 @@ phaseOwn n this prev side before up other toward done =
     (cond (eqb n 6) (leb side 1 && eqb before 0 && eqb up 0 && eqb other 0 && eqb toward 0)
     (cond (eqb n 7) (leb side 1 && leb up 1 && eqb toward 0) false)))))))
 
--- what lent words are
+-- what lent words are: by name, and as a record
+unfoldable pub partsOf : List ℕ → Parts
+partsOf s = cond (isRecord s) (parts.Words (flatAt s)) parts.Nothing
+
 unfoldable pub readOf : List ℕ → Lent
 readOf s = cond (isRecord s) (Record (workerOf s)) Nothing
 
 -- a record put into lent words; nothing where they do not fit exactly
 unfoldable pub putRecord : List ℕ → Worker → List ℕ
 putRecord s w = cond (eqb (length s) 11) (wordsOf w) s
+
+-- Eleven zeros are an idle record: `proofs/Idle.antt`.
+unfoldable pub isIdle : List ℕ → Bool
+isIdle s =
+    eqb (length s) 11
+    && (eqb (getD s 0 0) 0 && eqb (getD s 1 0) 0 && eqb (getD s 2 0) 0 && eqb (getD s 3 0) 0 && eqb (getD s 4 0) 0 && eqb (getD s 5 0) 0
+    && eqb (getD s 6 0) 0 && eqb (getD s 7 0) 0 && eqb (getD s 8 0) 0 && eqb (getD s 9 0) 0 && eqb (getD s 10 0) 0)
 
 -- A busy walk, which most steps meet, is told by its words alone, and goes on by five of them. `proofs/Walks.antt` shows
 -- that such words are a record, and which, and that they become the words of the walk that went on.

@@ -2,7 +2,10 @@
 ghost use mathlib.Core.Path.{_≡_};
 ghost use mathlib.Core.Bool.{true};
 ghost use lib.ListN.{length};
-ghost use Rattle.records.specs.Records.{sideNumber, kindNumber, workNumber, flatAt, notedOf, isRemover, phaseFlat, flatOf, readOf, listed, putRecord, isWalk, walkOn, countOn};
+ghost use Rattle.protocol.specs.Plan.{atRoot};
+ghost use Rattle.protocol.specs.Step.{idleWorker};
+ghost use Rattle.protocol.specs.declared.Work.the-variants.{Busy};
+ghost use Rattle.records.specs.Records.{sideNumber, kindNumber, workNumber, flatAt, notedOf, isRemover, phaseFlat, flatOf, partsOf, readOf, workerAt, listed, putRecord, isIdle, isWalk, walkOn, countOn};
 use protocol::Kind;
 use protocol::Phase;
 use protocol::Work;
@@ -12,7 +15,10 @@ mod own;
 mod reading;
 
 // How many words a record has.
-const WORDS: usize = 11;
+pub const WORDS: usize = 11;
+
+// The number of the phase that walks.
+const WALK: u64 = 0;
 
 // The words by name. What a phase does not note is 0; a side is 0 for left, 1 for right.
 pub struct Flat {
@@ -29,7 +35,13 @@ pub struct Flat {
     pub done: u64,
 }
 
-// What lent words are: a record, or none.
+// What lent words are: a record's words by name, or none.
+pub enum Parts {
+    Words(Flat),
+    Nothing,
+}
+
+// The same, as the record that they are.
 pub enum Lent {
     Record(Worker),
     Nothing,
@@ -176,7 +188,21 @@ fn flat_at(s: &[u64]) -> Flat
     }
 }
 
-// The record that the words are: they are eleven, and the record's own.
+// The words by name, where they are a record's: they are eleven, and the record's own.
+pub fn take_apart(s: &[u64]) -> Parts
+    ensures { λ r. ⌜ r ≡ partsOf (now (s .entry)) ⌝ }
+{
+    if s.len() != WORDS {
+        return Parts::Nothing;
+    }
+    let f = flat_at(s);
+    if own::is_own(f) {
+        return Parts::Words(f);
+    }
+    Parts::Nothing
+}
+
+// The record that the words are. It takes them apart by itself, so that `take_apart` has one caller and costs it no call.
 pub fn read(s: &[u64]) -> Lent
     ensures { λ r. ⌜ r ≡ readOf (now (s .entry)) ⌝ }
 {
@@ -188,6 +214,13 @@ pub fn read(s: &[u64]) -> Lent
         return Lent::Record(reading::worker_of(f));
     }
     Lent::Nothing
+}
+
+// The phase that the words say, for a caller that needs no more of the record.
+pub fn phase_of(f: Flat) -> Phase
+    ensures { λ r. ⌜ r ≡ workerAt f .phase ⌝ }
+{
+    reading::phase_of(f)
 }
 
 fn fill(d: &mut [u64], f: Flat)
@@ -216,6 +249,47 @@ pub fn put(d: &mut [u64], w: Worker)
     }
 }
 
+// An idle record's words, put without making the record.
+pub fn put_idle(d: &mut [u64])
+    ensures { λ _. ⌜ now (d .exit) ≡ putRecord (now (d .entry)) idleWorker ⌝ }
+{
+    if d.len() == WORDS {
+        fill(d, noted(0, 0, 0, 0, 0, true, 0, true, 0, true, 0));
+    }
+}
+
+// Those of a work that begins: it stands at the root.
+pub fn put_started(d: &mut [u64], kind: Kind, key: u64)
+    ensures { λ _. ⌜ now (d .exit) ≡ putRecord (now (d .entry)) (record { work = Busy kind; key = key; phase = atRoot }) ⌝ }
+{
+    if d.len() == WORDS {
+        fill(
+            d,
+            noted(kind_number(kind), key, 0, 0, 0, true, 0, true, 0, true, 0),
+        );
+    }
+}
+
+// Are they eleven zeros, as `put_idle` leaves them?
+pub fn is_idle(s: &[u64]) -> bool
+    ensures { λ r. ⌜ r ≡ isIdle (now (s .entry)) ⌝ }
+{
+    if s.len() != WORDS {
+        return false;
+    }
+    (s[0] == 0)
+        & (s[1] == 0)
+        & (s[2] == 0)
+        & (s[3] == 0)
+        & (s[4] == 0)
+        & (s[5] == 0)
+        & (s[6] == 0)
+        & (s[7] == 0)
+        & (s[8] == 0)
+        & (s[9] == 0)
+        & (s[10] == 0)
+}
+
 // A busy walk, which most steps meet
 
 // Are the words a busy walk's?
@@ -227,7 +301,7 @@ pub fn is_walk(s: &[u64]) -> bool
     }
     (1 <= s[0])
         & (s[0] <= 3)
-        & (s[2] == 0)
+        & (s[2] == WALK)
         & (s[5] <= 1)
         & (s[7] <= 1)
         & (s[8] == 0)

@@ -124,22 +124,28 @@ fn phase_at(
     remover_at(n, this, prev, side, before, up, other, toward, done)
 }
 
+pub fn phase_of(f: Flat) -> Phase
+    ensures { λ r. ⌜ r ≡ workerAt f .phase ⌝ }
+{
+    phase_at(
+        f.phase,
+        f.this,
+        f.prev,
+        f.side == 0,
+        f.before,
+        f.up == 0,
+        f.other,
+        f.toward == 0,
+        f.done,
+    )
+}
+
 pub fn worker_of(f: Flat) -> Worker
     ensures { λ r. ⌜ r ≡ workerAt f ⌝ }
 {
     Worker {
         work: work_at(f.work),
         key: f.key,
-        phase: phase_at(
-            f.phase,
-            f.this,
-            f.prev,
-            f.side == 0,
-            f.before,
-            f.up == 0,
-            f.other,
-            f.toward == 0,
-            f.done,
-        ),
+        phase: phase_of(f),
     }
 }

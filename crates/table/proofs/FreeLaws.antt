@@ -8,13 +8,10 @@ use native.Mathlib.Omega.{arith}
 use lib.Bits.{bitAnd, and-le-l, and-le-r}
 use lib.ListN.{length, getD}
 use borrow.Author.Tests.{eq-eqb, ne-eqb}
-use Rattle.layout.specs.Word.{get}
-use Rattle.table.specs.Pair.{slotsOf, wordOf, fieldOf}
+use Rattle.layout.specs.Layout.{fld}
+use Rattle.table.specs.Pair.{layout, stateF, slotsOf, wordOf, fieldOf}
+use Rattle.table.proofs.Places.{taken}
 use Rattle.table.specs.Free.{lowestFrom, lowestSlot, isFree, lowestFree, andFour, Sought}
-
--- the first second word that is no free slot's
-abbrev pub taken : ℕ
-taken = 4611686018427387904
 
 -- an odd place is that of a slot's second word
 second-word : (ws : List ℕ) (at : ℕ) → at % 2 ≡ 1 → wordOf ws (at / 2) 1 ≡ getD ws at 0
@@ -23,11 +20,11 @@ second-word ws at h = ap (λ (n : ℕ). getD ws n 0) (omega arith)
 
 pub free-below : (ws : List ℕ) (at : ℕ) → at % 2 ≡ 1 → getD ws at 0 < taken → isFree ws (at / 2) ≡ true
 unfolding isFree fieldOf
-free-below ws at h l = rw (second-word ws at h) (eq-eqb (get 62 2 (getD ws at 0)) 0 (omega arith))
+free-below ws at h l = rw (second-word ws at h) (eq-eqb (fld layout stateF (getD ws at 0)) 0 (omega arith))
 
 pub free-above : (ws : List ℕ) (at : ℕ) → at % 2 ≡ 1 → getD ws at 0 < 2 ^ 64 → taken ≤ getD ws at 0 → isFree ws (at / 2) ≡ false
 unfolding isFree fieldOf
-free-above ws at h f l = rw (second-word ws at h) (ne-eqb (get 62 2 (getD ws at 0)) 0 (λ e. omega arith))
+free-above ws at h f l = rw (second-word ws at h) (ne-eqb (fld layout stateF (getD ws at 0)) 0 (λ e. omega arith))
 
 -- a search over slots from i on, below s
 pub free-more : (ws : List ℕ) (i s : ℕ) → i < s → isFree ws i ≡ false → lowestFrom (isFree ws) i (s - i) ≡ lowestFrom (isFree ws) (suc i) (s - suc i)
@@ -83,3 +80,7 @@ pub eight-more : (ws : List ℕ) (a : ℕ) → a + 14 < length ws → ((i : ℕ)
 eight-more ws a h f l s =
     four-more ws (a + 8) (a + 16) (omega arith) (omega arith) f (omega (arith, and-le-r (andFour ws a) (andFour ws (a + 8))))
     (four-more ws a (a + 8) (omega arith) (omega arith) f (omega (arith, and-le-l (andFour ws a) (andFour ws (a + 8)))) s)
+
+-- eight slots looked at one by one, and none of them free
+pub none-of-eight : (ws : List ℕ) (a f : ℕ) → (f ≤ a + 16) × Sought ws f → a + 16 ≤ f → Sought ws (a + 16)
+none-of-eight ws a f s l = let e : f ≡ a + 16 = omega (arith, s .0) in rw e at (s .1)

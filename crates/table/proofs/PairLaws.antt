@@ -168,11 +168,17 @@ same-word ws vs i j a b e =
 
 -- As code has the layout: a field by its place and width
 
-pub link-wide : (side : Bool) → 10 ≡ wid layout (linkF side)
+abbrev pub linkWide : ℕ
+linkWide = wid layout (linkF true)
+
+abbrev pub lockWide : ℕ
+lockWide = wid layout (lockF State)
+
+pub link-wide : (side : Bool) → linkWide ≡ wid layout (linkF side)
 link-wide true = refl
 link-wide false = refl
 
-pub lock-wide : (which : Which) → 6 ≡ wid layout (lockF which)
+pub lock-wide : (which : Which) → lockWide ≡ wid layout (lockF which)
 lock-wide State = refl
 lock-wide (Edge true) = refl
 lock-wide (Edge false) = refl

@@ -35,6 +35,10 @@ busyF = 6
 abbrev pub zerosF : ℕ
 zerosF = 7
 
+-- a link names every slot, so there are at most as many as it can say
+abbrev pub mostSlots : ℕ
+mostSlots = 2 ^ wid layout (linkF true)
+
 -- the states
 abbrev pub free : ℕ
 free = 0

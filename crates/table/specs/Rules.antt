@@ -2,12 +2,12 @@
 -- Assumes nothing.
 use mathlib.Core.Bool.{Bool, true, false, cond, not, _&&_, _||_}
 use mathlib.Core.List.{List}
-use Prim.Native.Nat.{ℕ, _%_}
+use Prim.Native.Nat.{ℕ, _+_, _*_, _%_}
 use lib.Dec.{leb, ltb, eqb}
 use lib.ListN.{length, replicate}
 use Rattle.layout.specs.Layout.{fld}
 use Rattle.moment.specs.Said.{Said, gives, refuses}
-use Rattle.table.specs.Pair.{layout, free, asData, slotsOf, fieldOf, linkF, lockF, zerosF, busyF, keyOf, stateOf, linkOf, lockOf, busyOf, setKey, setState}
+use Rattle.table.specs.Pair.{layout, mostSlots, free, asData, slotsOf, fieldOf, stateF, linkF, lockF, zerosF, busyF, keyOf, stateOf, linkOf, lockOf, busyOf, setKey, setState}
 use Rattle.table.specs.declared.Which.the-variants.{State, Edge}
 use Rattle.table.specs.declared.Reply.{Reply}
 use Rattle.table.specs.declared.Reply.the-variants.{Done, Refusal}
@@ -30,6 +30,10 @@ wordFine x n root =
     && lockFine (fld layout (lockF State) x) && lockFine (fld layout (lockF (Edge true)) x) && lockFine (fld layout (lockF (Edge false)) x)
     && (root || eqb (fld layout busyF x) 0) && eqb (fld layout zerosF x) 0
 
+-- its three locks
+abbrev pub locksFine : ℕ → Bool
+locksFine x = lockFine (fld layout (lockF State) x) && lockFine (fld layout (lockF (Edge true)) x) && lockFine (fld layout (lockF (Edge false)) x)
+
 -- a pair that a step may read, store to or unlock: not free, and the bit rules
 unfoldable pub pairFine : List ℕ → ℕ → Bool
 pairFine ws i = not (eqb (stateOf ws i) free) && bitsFine ws i
@@ -44,12 +48,22 @@ rootFine ws =
     eqb (keyOf ws 0) allOnes && eqb (stateOf ws 0) asData && eqb (linkOf ws 0 false) 0
     && bitsFine ws 0 && leb (busyOf ws) 16
 
--- the fewest and the most words of a table
+-- the same of its two words
+unfoldable pub rootWords : ℕ → ℕ → ℕ → Bool
+rootWords key x n =
+    eqb key allOnes && eqb (fld layout stateF x) asData && eqb (fld layout (linkF false) x) 0
+    && wordFine x n true && leb (fld layout busyF x) 16
+
+-- a busy count of b or of up to 15 more
+unfoldable pub busyFrom : ℕ → ℕ → Bool
+busyFrom b n = leb b n && leb n (b + 15)
+
+-- the fewest and the most words of a table: 2048, two for each slot that a link can name
 abbrev pub fewestWords : ℕ
 fewestWords = 4
 
 abbrev pub mostWords : ℕ
-mostWords = 2048
+mostWords = 2 * mostSlots
 
 -- neither odd, nor under the fewest, nor over the most
 unfoldable pub sizeFine : ℕ → Bool

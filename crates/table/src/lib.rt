@@ -1,15 +1,17 @@
 // The lent words: the fields of a pair by their place in one layout, the rules of a pair and of the root, and `fresh`.
 // Every function takes any words, any slot and any value: what lies beyond the table reads as 0 and is not stored.
 ghost use mathlib.Core.Path.{_≡_};
-ghost use Prim.Native.Nat.{ℕ, _+_, _^_, _<_, _≤_};
+ghost use mathlib.Core.Bool.{true, not, _&&_};
+ghost use Prim.Native.Nat.{_+_, _<_, _≤_};
+ghost use lib.Dec.{leb, eqb};
 ghost use lib.ListN.{length, replicate};
 ghost use Rattle.layout.specs.Word.{get};
-ghost use Rattle.layout.specs.Layout.{pos};
-ghost use Rattle.table.specs.Pair.{layout, slotsOf, wordOf, setWord, setBits, keyOf, setKey, linkF, lockF, stateOf, linkOf, lockOf, busyOf, setState, setLink, setLock, setBusy, zeroPair, zeroed};
+ghost use Rattle.table.specs.Pair.{slotsOf, wordOf, setWord, setBits, keyOf, setKey, stateOf, linkOf, lockOf, busyOf, setState, setLink, setLock, setBusy, zeroPair, zeroed};
 ghost use Rattle.table.specs.Rules.{bitsFine, pairFine, rootFine, tableFine, replySays, freshSays, freshWords};
 
 pub mod free;
 mod rules;
+pub mod widths;
 
 // Which of a pair's locks: of its state, or of the edge on a side (true: left).
 pub enum Which {
@@ -32,26 +34,6 @@ pub const ROUTING: u64 = 2;
 
 pub const DELETED: u64 = 3;
 
-// The layout of a slot's second word: where the fields begin, and how wide they are.
-const STATE: u64 = 62;
-
-const STATE_BITS: u64 = 2;
-
-const LINK_BITS: u64 = 10;
-
-const LOCK_BITS: u64 = 6;
-
-const BUSY: u64 = 19;
-
-const BUSY_BITS: u64 = 5;
-
-// The words that a slot has, and the fewest and the most that a table has.
-const WORDS: u64 = 2;
-
-const FEWEST: u64 = 4;
-
-const MOST: u64 = 2048;
-
 // The root's key.
 const ALL_ONES: u64 = 18446744073709551615;
 
@@ -59,18 +41,18 @@ const ALL_ONES: u64 = 18446744073709551615;
 pub fn slots(t: &[u64]) -> u64
     ensures { λ r. ⌜ r ≡ slotsOf (now (t .entry)) ⌝ }
 {
-    t.len() as u64 / WORDS
+    t.len() as u64 / widths::WORDS
 }
 
 fn word(t: &[u64], i: u64, k: u64) -> u64
     requires { ⌜ k < 2 ⌝ }
     ensures { λ r. ⌜ r ≡ wordOf (now (t .entry)) i k ⌝ }
 {
-    let n = (t.len() as u64 + 1 - k) / WORDS;
+    let n = (t.len() as u64 + 1 - k) / widths::WORDS;
     if n <= i {
         return 0;
     }
-    let at = (WORDS * i + k) as usize;
+    let at = (widths::WORDS * i + k) as usize;
     t[at]
 }
 
@@ -78,11 +60,11 @@ fn set_word(t: &mut [u64], i: u64, k: u64, v: u64)
     requires { ⌜ k < 2 ⌝ }
     ensures { λ _. ⌜ now (t .exit) ≡ setWord (now (t .entry)) i k v ⌝ }
 {
-    let n = (t.len() as u64 + 1 - k) / WORDS;
+    let n = (t.len() as u64 + 1 - k) / widths::WORDS;
     if n <= i {
         return;
     }
-    let at = (WORDS * i + k) as usize;
+    let at = (widths::WORDS * i + k) as usize;
     t[at] = v;
 }
 
@@ -108,21 +90,6 @@ fn set_field(t: &mut [u64], i: u64, p: u64, w: u64, v: u64)
     set_word(t, i, 1, y);
 }
 
-fn link_at(side: bool) -> u64
-    ensures { λ r. ⌜ r ≡ pos layout (linkF side) ⌝ }
-{
-    if side { 52 } else { 42 }
-}
-
-fn lock_at(which: Which) -> u64
-    ensures { λ r. ⌜ r ≡ pos layout (lockF which) ⌝ }
-{
-    match which {
-        Which::State => 36,
-        Which::Edge(side) => { if side { 30 } else { 24 } }
-    }
-}
-
 pub fn key(t: &[u64], i: u64) -> u64
     ensures { λ r. ⌜ r ≡ keyOf (now (t .entry)) i ⌝ }
 {
@@ -139,26 +106,26 @@ pub fn fields(t: &[u64], i: u64) -> u64
 pub fn state(t: &[u64], i: u64) -> u64
     ensures { λ r. ⌜ r ≡ stateOf (now (t .entry)) i ⌝ }
 {
-    field(t, i, STATE, STATE_BITS)
+    field(t, i, widths::STATE_AT, widths::STATE_BITS)
 }
 
 pub fn link(t: &[u64], i: u64, side: bool) -> u64
     ensures { λ r. ⌜ r ≡ linkOf (now (t .entry)) i side ⌝ }
 {
-    field(t, i, link_at(side), LINK_BITS)
+    field(t, i, widths::link_at(side), widths::LINK_BITS)
 }
 
 pub fn lock(t: &[u64], i: u64, which: Which) -> u64
     ensures { λ r. ⌜ r ≡ lockOf (now (t .entry)) i which ⌝ }
 {
-    field(t, i, lock_at(which), LOCK_BITS)
+    field(t, i, widths::lock_at(which), widths::LOCK_BITS)
 }
 
 // How many workers are busy.
 pub fn busy(t: &[u64]) -> u64
     ensures { λ r. ⌜ r ≡ busyOf (now (t .entry)) ⌝ }
 {
-    field(t, 0, BUSY, BUSY_BITS)
+    field(t, 0, widths::BUSY_AT, widths::BUSY_BITS)
 }
 
 pub fn set_key(t: &mut [u64], i: u64, k: u64)
@@ -167,30 +134,37 @@ pub fn set_key(t: &mut [u64], i: u64, k: u64)
     set_word(t, i, 0, k);
 }
 
+// Stores the word of fields whole.
+pub fn set_fields(t: &mut [u64], i: u64, x: u64)
+    ensures { λ _. ⌜ now (t .exit) ≡ setWord (now (t .entry)) i 1 x ⌝ }
+{
+    set_word(t, i, 1, x);
+}
+
 pub fn set_state(t: &mut [u64], i: u64, s: u64)
     ensures { λ _. ⌜ now (t .exit) ≡ setState (now (t .entry)) i s ⌝ }
 {
-    set_field(t, i, STATE, STATE_BITS, s);
+    set_field(t, i, widths::STATE_AT, widths::STATE_BITS, s);
 }
 
 pub fn set_link(t: &mut [u64], i: u64, side: bool, c: u64)
     ensures { λ _. ⌜ now (t .exit) ≡ setLink (now (t .entry)) i side c ⌝ }
 {
-    let p = link_at(side);
-    set_field(t, i, p, LINK_BITS, c);
+    let p = widths::link_at(side);
+    set_field(t, i, p, widths::LINK_BITS, c);
 }
 
 pub fn set_lock(t: &mut [u64], i: u64, which: Which, x: u64)
     ensures { λ _. ⌜ now (t .exit) ≡ setLock (now (t .entry)) i which x ⌝ }
 {
-    let p = lock_at(which);
-    set_field(t, i, p, LOCK_BITS, x);
+    let p = widths::lock_at(which);
+    set_field(t, i, p, widths::LOCK_BITS, x);
 }
 
 pub fn set_busy(t: &mut [u64], n: u64)
     ensures { λ _. ⌜ now (t .exit) ≡ setBusy (now (t .entry)) n ⌝ }
 {
-    set_field(t, 0, BUSY, BUSY_BITS, n);
+    set_field(t, 0, widths::BUSY_AT, widths::BUSY_BITS, n);
 }
 
 // Are all words of the slot zero?
@@ -214,10 +188,20 @@ pub fn bits_fine(t: &[u64], i: u64) -> bool
     rules::word_fine(fields(t, i), slots(t), i == 0)
 }
 
+// True only of a pair that is fine; false for the root while a worker is busy, which has a bit that no other pair has.
+pub fn pair_quick(t: &[u64], i: u64) -> bool
+    ensures { λ r. ⌜ (r ≡ true → pairFine (now (t .entry)) i ≡ true) ⌝ }
+{
+    rules::pair_quick(fields(t, i), slots(t))
+}
+
 // May a step read, store to or unlock this pair?
 pub fn pair_fine(t: &[u64], i: u64) -> bool
     ensures { λ r. ⌜ r ≡ pairFine (now (t .entry)) i ⌝ }
 {
+    if pair_quick(t, i) {
+        return true;
+    }
     (state(t, i) != FREE) & bits_fine(t, i)
 }
 
@@ -227,13 +211,38 @@ fn root_fine(t: &[u64]) -> bool
     if !((key(t, 0) == ALL_ONES) & (state(t, 0) == DATA) & (link(t, 0, false) == 0)) {
         return false;
     }
-    bits_fine(t, 0) & (busy(t) <= 16)
+    bits_fine(t, 0) & (busy(t) <= widths::MOST_BUSY)
+}
+
+// Where a worker is busy: true only of a table that is fine.
+pub fn table_quick(t: &[u64]) -> bool
+    ensures { λ r. ⌜ (r ≡ true → (tableFine (now (t .entry)) && not (eqb (busyOf (now (t .entry))) 0)) ≡ true) ⌝ }
+{
+    let n = t.len() as u64;
+    if !rules::size_fine(n) {
+        return false;
+    }
+    rules::root_quick(key(t, 0), fields(t, 0), n / widths::WORDS, 1)
+}
+
+// Where one more worker may be busy: true only of a table that is fine.
+pub fn table_open(t: &[u64]) -> bool
+    ensures { λ r. ⌜ (r ≡ true → (tableFine (now (t .entry)) && not (leb 16 (busyOf (now (t .entry))))) ≡ true) ⌝ }
+{
+    let n = t.len() as u64;
+    if !rules::size_fine(n) {
+        return false;
+    }
+    rules::root_quick(key(t, 0), fields(t, 0), n / widths::WORDS, 0)
 }
 
 // Rule 1.
 pub fn table_fine(t: &[u64]) -> bool
     ensures { λ r. ⌜ r ≡ tableFine (now (t .entry)) ⌝ }
 {
+    if table_quick(t) {
+        return true;
+    }
     let n = t.len() as u64;
     if !rules::size_fine(n) {
         return false;

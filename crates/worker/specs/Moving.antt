@@ -1,12 +1,20 @@
 -- What a step that is told, not made, comes to: what it says, the record after it, and the words where the work is over.
 -- `proofs/MovingLaws.antt` has that this is the protocol's step.
 -- Assumes nothing.
+use mathlib.Core.Bool.{Bool, true, cond, _&&_}
 use mathlib.Core.List.{List}
-use Prim.Native.Nat.{ℕ}
+use Prim.Native.Nat.{ℕ, _^_}
+use lib.Dec.{ltb, eqb}
 use Rattle.moment.specs.Said.{Said, gives, refuses}
+use Rattle.layout.specs.Layout.{wid}
+use Rattle.table.specs.Pair.{layout, linkF, keyOf, linkOf}
+use Rattle.table.specs.Rules.{pairFine, tableFine}
+use Rattle.protocol.specs.Record.{recordFine}
 use Rattle.protocol.specs.Says.{Verdict, going, answerSays}
 use Rattle.protocol.specs.Plan.{nextOf}
 use Rattle.protocol.specs.Step.{idleWorker, leave}
+use Rattle.protocol.specs.declared.Kind.the-variants.{Lookup}
+use Rattle.protocol.specs.declared.Phase.the-variants.{Walk}
 use Rattle.protocol.specs.declared.Worker.{Worker}
 use Rattle.acting.specs.Moves.{Move, stepMove}
 use Rattle.acting.specs.declared.Moved.{Moved}
@@ -34,3 +42,17 @@ moveWorker w (Stays n) = w
 -- of a record
 abbrev pub moveOf : List ℕ → Worker → Move
 moveOf ws w = stepMove ws (w .work) (w .key) (w .phase)
+
+-- A walk by itself, whatever its work and the sides: rules 1 and 6 let it step; and where it goes: the next slot, or, where it
+-- ends on the slot of the key or at nothing, `ends`, the least number that no link holds
+unfoldable pub walkFine : List ℕ → ℕ → ℕ → ℕ → ℕ → Bool
+walkFine ws key at prev before =
+    tableFine ws && recordFine ws Lookup key (Walk at prev before true true) && pairFine ws at
+
+abbrev pub ends : ℕ
+ends = 2 ^ wid layout (linkF true)
+
+unfoldable pub walkTo : List ℕ → ℕ → ℕ → ℕ
+walkTo ws key at =
+    cond (eqb (keyOf ws at) key) ends
+    (cond (eqb (linkOf ws at (ltb key (keyOf ws at))) 0) ends (linkOf ws at (ltb key (keyOf ws at))))

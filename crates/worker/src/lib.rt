@@ -1,19 +1,17 @@
 // Workers: one insert, remove or lookup, one step at a time. `start`, `step` and `withdraw` take any words and any record
 // and come to an end; each promises the protocol's definition, refusals included.
 ghost use mathlib.Core.Path.{_≡_};
-ghost use mathlib.Core.Bool.{true, cond, not, _&&_};
-ghost use lib.Dec.{ltb, eqb};
-ghost use Rattle.table.specs.Pair.{keyOf, linkOf};
-ghost use Rattle.table.specs.Rules.{replySays, pairFine, tableFine};
-ghost use Rattle.protocol.specs.Record.{recordFine};
+ghost use mathlib.Core.Bool.{true, cond};
+ghost use lib.Dec.{eqb};
+ghost use mathlib.Core.Logic.{_≢_};
+ghost use Rattle.table.specs.Rules.{replySays};
+ghost use Rattle.protocol.specs.Walk.{visit};
 ghost use Rattle.protocol.specs.Says.{answerSays};
 ghost use Rattle.protocol.specs.Step.{stepOf, idleWorker};
 ghost use Rattle.protocol.specs.Calls.{idle, judgeStart, startOf, judgeBusy, judgeWithdraw, withdrawOf};
-ghost use Rattle.acting.specs.Moves.{stepMove};
-ghost use Rattle.worker.specs.Moving.{leftBy};
-ghost use Rattle.protocol.specs.declared.Kind.the-variants.{Lookup};
+ghost use Rattle.acting.specs.Moves.{movedOf, stepMove};
+ghost use Rattle.worker.specs.Moving.{leftBy, ends, walkFine, walkTo};
 ghost use Rattle.protocol.specs.declared.Work.the-variants.{Busy};
-ghost use Rattle.protocol.specs.declared.Phase.the-variants.{Walk};
 use acting::Moved;
 use protocol::Answer;
 use protocol::Kind;
@@ -24,7 +22,7 @@ use protocol::Work;
 use protocol::Worker;
 use table::Reply;
 
-mod seats;
+pub mod seats;
 
 // The record of a worker that is not busy.
 pub fn idle_worker() -> Worker
@@ -37,16 +35,23 @@ pub fn idle_worker() -> Worker
     }
 }
 
-// One step, told and not made: for a caller that keeps its records in a form of its own, and moves them on there. The seat
-// is given up where the work is over.
-pub fn move_on(words: &mut [u64], work: Work, key: u64, phase: Phase) -> Moved
-    ensures { λ r. ⌜ (r ≡ stepMove (now (words .entry)) work key phase .said) × (now (words .exit) ≡ leftBy r (stepMove (now (words .entry)) work key phase .words)) ⌝ }
+// The seat is given up where the work is over.
+fn leave_by(words: &mut [u64], m: Moved)
+    ensures { λ _. ⌜ now (words .exit) ≡ leftBy m (now (words .entry)) ⌝ }
 {
-    let m = acting::step_on(words, work, key, phase);
     match m {
         Moved::Over(_) => seats::leave_seat(words),
         _ => {}
     }
+}
+
+// One step, reported and not put into a record: for a caller that keeps its records in a form of its own. The seat is given
+// up where the work is over.
+pub fn move_on(words: &mut [u64], work: Work, key: u64, phase: Phase) -> Moved
+    ensures { λ r. ⌜ (r ≡ stepMove (now (words .entry)) work key phase .said) × (now (words .exit) ≡ leftBy r (stepMove (now (words .entry)) work key phase .words)) ⌝ }
+{
+    let m = acting::step_on(words, work, key, phase);
+    leave_by(words, m);
     m
 }
 
@@ -86,25 +91,76 @@ pub fn step(words: &mut [u64], w: Worker) -> Stepped
     }
 }
 
-// The slot that a busy walk goes on to, where rules 1 and 6 let it, the slot's key is another and there is one; else 0.
-// For a caller that keeps its records in a form of its own: a walk that goes on, which most steps are, needs no more.
-pub fn next_slot(words: &[u64], key: u64, at: u64, prev: u64, before: u64) -> u64
-    ensures { λ r. ⌜ r ≡ cond (tableFine (now (words .entry)) && recordFine (now (words .entry)) Lookup key (Walk at prev before true true) && pairFine (now (words .entry)) at && not (eqb (keyOf (now (words .entry)) at) key)) (linkOf (now (words .entry)) at (ltb key (keyOf (now (words .entry)) at))) 0 ⌝ }
+// What `next_slot` returns for a walk that ends where it stands: no link holds this number.
+pub const ENDS: u64 = table::widths::LINKS;
+
+fn or_ends(c: u64) -> u64
+    ensures { λ r. ⌜ r ≡ cond (eqb c 0) ends c ⌝ }
 {
-    if !table::table_fine(words) {
-        return 0;
-    }
-    if !plan::walk_fine(words, key, at, prev, before) {
-        return 0;
-    }
-    if !table::pair_fine(words, at) {
-        return 0;
-    }
+    if c == 0 { ENDS } else { c }
+}
+
+// The slot that a walk goes on to, or ENDS.
+pub fn walk_to(words: &[u64], key: u64, at: u64) -> u64
+    ensures { λ r. ⌜ r ≡ walkTo (now (words .entry)) key at ⌝ }
+{
     let k = table::key(words, at);
     if k == key {
+        return ENDS;
+    }
+    or_ends(table::link(words, at, key < k))
+}
+
+// The slot that a busy walk goes on to, or ENDS, where the quick tests find that rules 1 and 6 let it step. Else 0, which says
+// nothing: the caller asks `walk_fine`. The root has no test of its own: rule 1 has judged it, and its key is above every legal
+// one. For a caller that keeps its records in a form of its own: a walk that goes on, which most steps are, needs no more.
+pub fn next_slot(words: &[u64], key: u64, at: u64, prev: u64, before: u64) -> u64
+    ensures { λ r. ⌜ (r ≢ 0 → (walkFine (now (words .entry)) key at prev before ≡ true) × (r ≡ walkTo (now (words .entry)) key at)) ⌝ }
+{
+    if !table::table_quick(words) {
         return 0;
     }
-    table::link(words, at, key < k)
+    if !plan::walk_quick(words, key, at, prev, before) {
+        return 0;
+    }
+    if at == 0 {
+        return or_ends(table::link(words, 0, true));
+    }
+    if !table::pair_quick(words, at) {
+        return 0;
+    }
+    walk_to(words, key, at)
+}
+
+// Do rules 1 and 6 let a busy walk step?
+pub fn walk_fine(words: &[u64], key: u64, at: u64, prev: u64, before: u64) -> bool
+    ensures { λ r. ⌜ r ≡ walkFine (now (words .entry)) key at prev before ⌝ }
+{
+    if !table::table_fine(words) {
+        return false;
+    }
+    if !plan::walk_fine(words, key, at, prev, before) {
+        return false;
+    }
+    table::pair_fine(words, at)
+}
+
+// The step of a walk of which rules 1 and 6 are judged, reported as `move_on` reports it.
+pub fn visit_on(
+    words: &mut [u64],
+    kind: Kind,
+    key: u64,
+    at: u64,
+    prev: u64,
+    before: u64,
+    side: bool,
+    up: bool,
+) -> Moved
+    ensures { λ r. ⌜ (r ≡ movedOf (visit (now (words .entry)) kind key at prev before side up)) × (now (words .exit) ≡ leftBy r (now (words .entry))) ⌝ }
+{
+    let m = acting::visited(words, kind, key, at, prev, before, side, up);
+    leave_by(words, m);
+    m
 }
 
 // Start and withdraw

@@ -1,6 +1,5 @@
 use mathlib.Core.Path.{sym, _∙_}
 use borrow.Author.Tests.{eq-eqb, ne-eqb, not-true, not-false}
-use Rattle.protocol.specs.Stores.{taken}
 use Rattle.protocol.proofs.LockLaws.{lowest-free}
 use Rattle.acting.specs.Acts.{takes}
 use borrow.Author.Needs.{needs}
@@ -15,7 +14,8 @@ same-length c = search needs
 
 returns : tie.Need-returns
 unfolding takes
-returns c = let q = eq-eqb _ _ (sym (c .before .lowest-free .ensures ∙ lowest-free _) ∙ c .if1 .taken) in
+returns c =
+    let q = eq-eqb _ _ (sym (c .before .lowest-free .ensures ∙ lowest-free _) ∙ c .if1 .taken) in
     (simp q, simp q)
 
 zero-pair-requires : tie.Need-zero-pair-requires
@@ -26,28 +26,42 @@ same-length-2 c = search needs
 
 returns-2 : tie.Need-returns-2
 unfolding takes
-returns-2 c = let q = ne-eqb _ _ (λ z. c .before .before .before .if1 .left ((c .before .before .before .before .lowest-free .ensures ∙ lowest-free _) ∙ z)) in
-    let y = rw (c .before .before .before .before .lowest-free .ensures ∙ lowest-free _) at (sym (c .before .zero-pair .ensures) ∙ not-true (c .before .zero-pair .result) (c .if2 .taken)) in
+returns-2 c =
+    let z = c .before in
+    let i = z .before .before in
+    let f = i .before .lowest-free .ensures ∙ lowest-free _ in
+    let q = ne-eqb _ _ (λ e. i .if1 .left (f ∙ e)) in
+    let y = rw f at (sym (z .zero-pair .ensures) ∙ not-true (z .zero-pair .result) (c .if2 .taken)) in
     (simp (q, y), simp (q, y))
 
-set-key-requires : tie.Need-set-key-requires
-set-key-requires c κs = tt
-
-set-state-requires : tie.Need-set-state-requires
-set-state-requires c κs = tt
-
-set-link-requires : tie.Need-set-link-requires
-set-link-requires c κs = tt
+put-frame-requires : tie.Need-put-frame-requires
+put-frame-requires c κs = tt
 
 same-length-3 : tie.Need-same-length-3
 same-length-3 c = search needs
 
 returns-3 : tie.Need-returns-3
-unfolding takes taken
-returns-3 c = let q = ne-eqb _ _ (λ z. c .before .before .before .before .before .before .before .before .before .before .before .before .before .before .before .if1 .left ((c .before .before .before .before .before .before .before .before .before .before .before .before .before .before .before .before .lowest-free .ensures ∙ lowest-free _) ∙ z)) in
-    let y = rw (c .before .before .before .before .before .before .before .before .before .before .before .before .before .before .before .before .lowest-free .ensures ∙ lowest-free _) at (sym (c .before .before .before .before .before .before .before .before .before .before .before .before .before .zero-pair .ensures) ∙ not-false (c .before .before .before .before .before .before .before .before .before .before .before .before .before .zero-pair .result) (c .before .before .before .before .before .before .before .before .before .before .before .before .if2 .left)) in
-    let s = rw (c .before .before .before .before .before .before .set-state .ensures, c .before .before .before .before .before .before .before .before .before .before .set-key .ensures, (c .before .before .before .before .before .before .before .before .before .before .before .before .before .before .before .before .lowest-free .ensures ∙ lowest-free _)) at (c .before .before .set-link .ensures) in
-    (simp (q, y), simp (q, y) s)
+unfolding takes
+returns-3 c =
+    let s = c .before .before in
+    let j = s .before .before in
+    let z = j .before in
+    let i = z .before .before in
+    let f = i .before .lowest-free .ensures ∙ lowest-free _ in
+    let q = ne-eqb _ _ (λ e. i .if1 .left (f ∙ e)) in
+    let y = rw f at (sym (z .zero-pair .ensures) ∙ not-false (z .zero-pair .result) (j .if2 .left)) in
+    (simp (q, y), simp (q, y) (rw f at (s .put-frame .ensures)))
 
 pub take-spec : {M : Type 1} → statement M
-take-spec = tie.close (tie.spec lowest-free-requires same-length returns zero-pair-requires same-length-2 returns-2 set-key-requires set-state-requires set-link-requires same-length-3 returns-3)
+take-spec =
+    tie.close
+    (tie.spec
+    lowest-free-requires
+    same-length
+    returns
+    zero-pair-requires
+    same-length-2
+    returns-2
+    put-frame-requires
+    same-length-3
+    returns-3)

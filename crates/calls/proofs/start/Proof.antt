@@ -1,28 +1,15 @@
 use mathlib.Core.Path.{sym, _∙_}
-use Rattle.records.proofs.Canonical.{read-nothing, read-record}
-use Rattle.calls.specs.Numbers.{number}
-use Rattle.calls.proofs.Calls.{unread-call, read-call}
+use borrow.Author.Tests.{not-true, not-false}
+use Rattle.calls.proofs.StartCalls.{start-call, start-wrong}
 use borrow.Author.Needs.{needs}
 use Rattle.calls.proofs.start.Statement.{statement}
 use Rattle.calls.proofs.start.Tie as tie
 
-read-requires : tie.Need-read-requires
-read-requires c κs = search needs
+opens-quick-requires : tie.Need-opens-quick-requires
+opens-quick-requires c κs = search needs
 
-enum-told : tie.Need-enum-told
-enum-told c = search needs
-
-unread-requires : tie.Need-unread-requires
-unread-requires c κs = search needs
-
-enum-known-r : tie.Need-enum-known-r
-enum-known-r c = search needs
-
-start-requires : tie.Need-start-requires
-start-requires c κs = search needs
-
-put-reply-requires : tie.Need-put-reply-requires
-put-reply-requires c κs = search needs
+legal-requires : tie.Need-legal-requires
+legal-requires c κs = search needs
 
 same-length : tie.Need-same-length
 same-length c = search needs
@@ -31,7 +18,16 @@ same-length-2 : tie.Need-same-length-2
 same-length-2 c = search needs
 
 returns : tie.Need-returns
-returns c = unread-call number _ _ _ (read-nothing _ (sym (c .before .before .before .before .read .ensures) ∙ c .before .before .enum-told .given .1)) (c .unread .ensures)
+returns c =
+    let l = c .before in
+    let t = l .before in
+    start-wrong _ _ _ _ (t .before .opens-quick .ensures (t .if1 .taken)) (sym (l .legal .ensures) ∙ not-true (l .legal .result) (c .if2 .taken))
+
+take-seat-requires : tie.Need-take-seat-requires
+take-seat-requires c κs = search needs
+
+put-started-requires : tie.Need-put-started-requires
+put-started-requires c κs = search needs
 
 same-length-3 : tie.Need-same-length-3
 same-length-3 c = search needs
@@ -40,24 +36,41 @@ same-length-4 : tie.Need-same-length-4
 same-length-4 c = search needs
 
 returns-2 : tie.Need-returns-2
-returns-2 c = let h = read-record _ _ (sym (c .before .before .before .before .before .before .before .before .before .before .before .read .ensures) ∙ c .before .before .before .before .before .before .before .before .before .r .given .1) in
-    let p = c .before .before .put-reply .ensures in
-    let e = rw (h .1) at (c .before .before .before .before .before .before .start .ensures) in
-    read-call number _ _ _ (h .0) (p .0) (e .0) (e .1) (p .1) (e .2)
+returns-2 c =
+    let p = c .before .before in
+    let s = p .before .before .before .before in
+    let e = s .before .before in
+    let l = e .before in
+    let t = l .before in
+    start-call _ _ _ _ (t .before .opens-quick .ensures (t .if1 .taken)) (sym (l .legal .ensures) ∙ not-false (l .legal .result) (e .if2 .left)) (p .put-started .ensures) (s .take-seat .ensures)
+
+record-start-requires : tie.Need-record-start-requires
+record-start-requires c κs = search needs
+
+same-length-5 : tie.Need-same-length-5
+same-length-5 c = search needs
+
+same-length-6 : tie.Need-same-length-6
+same-length-6 c = search needs
+
+returns-3 : tie.Need-returns-3
+returns-3 c = search needs
 
 pub start-spec : {M : Type 1} → statement M
 start-spec =
     tie.close
     (tie.spec
-    read-requires
-    enum-told
-    unread-requires
-    enum-known-r
-    start-requires
-    put-reply-requires
+    opens-quick-requires
+    legal-requires
     same-length
     same-length-2
     returns
+    take-seat-requires
+    put-started-requires
     same-length-3
     same-length-4
-    returns-2)
+    returns-2
+    record-start-requires
+    same-length-5
+    same-length-6
+    returns-3)

@@ -1,16 +1,14 @@
--- An action that takes no lock holds none and gives none up; and what `_` leaves of a `match` after a lock, which is place 2 of
--- the enum, is such an action.
+-- An action that takes no lock holds none and gives none up; one that takes a lock is judged and given up by what it holds.
 -- Assumes nothing.
-use mathlib.Core.Path.{_≡_, refl, sym}
+use mathlib.Core.Path.{_≡_, refl}
 use mathlib.Core.Bool.{true}
-use mathlib.Core.List.{List, [], _∷_}
+use mathlib.Core.List.{List}
 use Prim.Native.Nat.{ℕ}
-use types.Run.{OneOf, miss}
-use denote.Enum.Declared.{tagOf}
-use Rattle.protocol.proofs.Action.{the-type}
 use Rattle.protocol.specs.Locks.{heldOne, releaseOne}
 use Rattle.protocol.specs.declared.Action.{Action}
 use Rattle.protocol.specs.declared.Action.the-variants.{Visit, Look, Lock, Mark, Link, Take, End, Beyond}
+use Rattle.plan.specs.Holds.{holdIn}
+use Rattle.locks.specs.Holding.{heldBy, freedBy}
 
 abbrev pub Frees : Action → Type 0
 Frees (Visit at prev before side up) = Unit {0}
@@ -44,21 +42,27 @@ free-released ws (Take prev side) t = refl
 free-released ws End t = refl
 free-released ws Beyond t = refl
 
-abbrev pub Other : Action → Type 0
-Other a = OneOf (0 ∷ 1 ∷ 3 ∷ 4 ∷ 5 ∷ 6 ∷ 7 ∷ []) (tagOf the-type a)
+abbrev pub Takes : Action → Type 0
+Takes a = Frees a → ⊥
 
-other-frees : (a : Action) → Other a → Frees a
-other-frees (Visit at prev before side up) t = tt
-other-frees (Look this prev side before up) t = tt
-other-frees (Lock slot which write state links) t = miss (0 ∷ 1 ∷ 3 ∷ 4 ∷ 5 ∷ 6 ∷ 7 ∷ []) 2 tt t
-other-frees (Mark slot to) t = tt
-other-frees (Link slot side to) t = tt
-other-frees (Take prev side) t = tt
-other-frees End t = tt
-other-frees Beyond t = tt
+pub lock-held : (ws : List ℕ) (a : Action) → Takes a → heldBy ws (holdIn a) ≡ heldOne ws a
+unfolding heldBy holdIn heldOne
+lock-held ws (Visit at prev before side up) t = absurd (t tt)
+lock-held ws (Look this prev side before up) t = absurd (t tt)
+lock-held ws (Lock slot which write state links) t = refl
+lock-held ws (Mark slot to) t = absurd (t tt)
+lock-held ws (Link slot side to) t = absurd (t tt)
+lock-held ws (Take prev side) t = absurd (t tt)
+lock-held ws End t = absurd (t tt)
+lock-held ws Beyond t = absurd (t tt)
 
-pub held-other : (ws : List ℕ) (a : Action) → Other a → true ≡ heldOne ws a
-held-other ws a t = sym (free-held ws a (other-frees a t))
-
-pub release-other : (ws : List ℕ) (a : Action) → Other a → ws ≡ releaseOne ws a
-release-other ws a t = sym (free-released ws a (other-frees a t))
+pub lock-freed : (ws : List ℕ) (a : Action) → Takes a → freedBy ws (holdIn a) ≡ releaseOne ws a
+unfolding freedBy holdIn releaseOne
+lock-freed ws (Visit at prev before side up) t = absurd (t tt)
+lock-freed ws (Look this prev side before up) t = absurd (t tt)
+lock-freed ws (Lock slot which write state links) t = refl
+lock-freed ws (Mark slot to) t = absurd (t tt)
+lock-freed ws (Link slot side to) t = absurd (t tt)
+lock-freed ws (Take prev side) t = absurd (t tt)
+lock-freed ws End t = absurd (t tt)
+lock-freed ws Beyond t = absurd (t tt)

@@ -29,7 +29,7 @@ enum pannuqreik_answer {
     PANNUQREIK_FULL = 5,   /* a step: the insert ended, there was no free slot */
 
     /* Refusals, in the order in which they are judged, where nothing else is said. */
-    PANNUQREIK_TABLE = 1,     /* words odd, under 4 or over 2,048; or the root's pair breaks a rule */
+    PANNUQREIK_TABLE = 1,     /* words not SLOT_WORDS a slot, under FEWEST_WORDS, over MOST_WORDS; root's pair breaks a rule */
     PANNUQREIK_STATE = 2,     /* start on a busy record; step or withdraw on an idle one */
     PANNUQREIK_RANGE = 3,     /* a key that is not legal, or fields out of range */
     PANNUQREIK_BUSY = 4,      /* 16 workers are busy */
@@ -43,10 +43,17 @@ enum pannuqreik_answer {
     PANNUQREIK_NONE = 13      /* first frame: no key at or above */
 };
 
-/* Sizes. A table has two words for each slot, 2 to 1,024 slots; slot 0 is the root, so it holds at most one frame less. */
+/* Sizes. A table has PANNUQREIK_SLOT_WORDS words for each slot, PANNUQREIK_FEWEST_SLOTS to PANNUQREIK_MOST_SLOTS slots; slot 0
+ * is the root, so it holds at most one frame less. A table of 64 slots:
+ *
+ *     uint64_t words[64 * PANNUQREIK_SLOT_WORDS];
+ */
 enum pannuqreik_size {
-    PANNUQREIK_FEWEST_WORDS = 4,
-    PANNUQREIK_MOST_WORDS = 2048,
+    PANNUQREIK_SLOT_WORDS = 2, /* the words of a slot */
+    PANNUQREIK_FEWEST_SLOTS = 2,
+    PANNUQREIK_MOST_SLOTS = 1024,
+    PANNUQREIK_FEWEST_WORDS = PANNUQREIK_FEWEST_SLOTS * PANNUQREIK_SLOT_WORDS,
+    PANNUQREIK_MOST_WORDS = PANNUQREIK_MOST_SLOTS * PANNUQREIK_SLOT_WORDS,
     PANNUQREIK_RECORD_WORDS = 11,
     PANNUQREIK_MOST_WORKERS = 16,
     PANNUQREIK_KEY_FIELDS = 9,

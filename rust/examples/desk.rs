@@ -5,7 +5,7 @@
 //!
 //! Without a folder the morning is made up. With one, each file is a frame: its capture text is looked for in its first
 //! 64 KB, its camera is the place of its subfolder (the folder itself is 0), and its number the last digits of its name.
-use pannuqreik::{read_text, Answer, Fields, Key, Moment, Refusal, Table, Work, Worker};
+use pannuqreik::{read_text, Answer, Fields, Key, Moment, Refusal, Table, Work, Worker, MOST_WORDS};
 use std::collections::{BTreeSet, VecDeque};
 use std::io::{IsTerminal, Read, Write};
 use std::path::{Path, PathBuf};
@@ -222,7 +222,7 @@ fn main() -> Result<(), Box<dyn std::error::Error>> {
         Some(folder) => in_folder(&folder)?,
         None => made_up(&mut random),
     };
-    let mut words = vec![0; 2 * 1024];
+    let mut words = vec![0; MOST_WORDS];
     let table = Table::fresh(&mut words)?;
     let marked: BTreeSet<Key> = frames.iter().copied().filter(|_| random.below(3) > 0).collect();
     let all = frames.len() + marked.len();

@@ -22,7 +22,7 @@ pub enum Answer {
 /// let refusal = Table::fresh(&mut [0; 5]).unwrap_err();
 /// assert_eq!(refusal, Refusal::Table);
 /// assert_eq!(refusal as u64, 1);
-/// assert_eq!(refusal.to_string(), "refused 1: the words are odd, under 4 or over 2,048, or the root's pair breaks a rule");
+/// assert_eq!(Refusal::None.to_string(), "refused 13: no key at or above that number");
 /// ```
 #[derive(Clone, Copy, Debug, PartialEq, Eq, Hash)]
 pub enum Refusal {

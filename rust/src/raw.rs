@@ -11,6 +11,21 @@ pub const YES: u64 = 16;
 pub const NO: u64 = 17;
 /// How many words a record has. Zeros are an idle record.
 pub const RECORD_WORDS: usize = 11;
+/// How many words a table has for each slot.
+pub const SLOT_WORDS: usize = 2;
+/// The fewest slots of a table.
+pub const FEWEST_SLOTS: usize = 2;
+/// The most slots of a table.
+pub const MOST_SLOTS: usize = 1024;
+/// The fewest words of a table.
+pub const FEWEST_WORDS: usize = words_for(FEWEST_SLOTS);
+/// The most words of a table.
+pub const MOST_WORDS: usize = words_for(MOST_SLOTS);
+
+/// How many words a table of so many slots has. One of the slots is the root.
+pub const fn words_for(slots: usize) -> usize {
+    SLOT_WORDS * slots
+}
 
 mod c {
     extern "C" {

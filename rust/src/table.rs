@@ -1,9 +1,10 @@
 //! The table: lent words.
 use crate::answer::{refusal, told, Refusal};
 use crate::key::Key;
-use crate::raw;
+use crate::raw::{self, SLOT_WORDS};
 
-/// A table over words that the caller lends, two for each slot, 2 to 1,024 slots.
+/// A table over words that the caller lends: [`SLOT_WORDS`] for each slot, [`FEWEST_SLOTS`](crate::FEWEST_SLOTS) to
+/// [`MOST_SLOTS`](crate::MOST_SLOTS) slots. [`words_for`](crate::words_for) says how many words that is.
 #[derive(Debug)]
 pub struct Table<'a> {
     words: &'a mut [u64],
@@ -19,11 +20,11 @@ impl<'a> Table<'a> {
     /// The table that the words are, whatever they hold: every call judges them.
     ///
     /// ```
-    /// use pannuqreik::{Refusal, Table};
-    /// let mut words = [7; 8];
+    /// use pannuqreik::{words_for, Refusal, Table, SLOT_WORDS};
+    /// let mut words = [7; words_for(4)];
     /// assert_eq!(Table::open(&mut words).check(), Err(Refusal::Table)); // no root
     /// Table::fresh(&mut words)?;
-    /// words[2] = 1; // a free slot is zero in both words
+    /// words[SLOT_WORDS] = 1; // the first word of slot 1, and a free slot is zero in all its words
     /// assert_eq!(Table::open(&mut words).check(), Ok(false));
     /// # Ok::<(), Refusal>(())
     /// ```
@@ -33,7 +34,7 @@ impl<'a> Table<'a> {
 
     /// How many slots the words make. One of them is the root.
     pub fn slots(&self) -> usize {
-        self.words.len() / 2
+        self.words.len() / SLOT_WORDS
     }
 
     /// The words, to look at.
@@ -57,8 +58,8 @@ impl<'a> Table<'a> {
     /// The keys from low to high, both included, smallest first: the filled front of `out`, whose rest stays. Or 1, 6, 11.
     ///
     /// ```
-    /// use pannuqreik::{Key, Refusal, Table, Work, Worker};
-    /// let mut words = [0; 8];
+    /// use pannuqreik::{words_for, Key, Refusal, Table, Work, Worker};
+    /// let mut words = [0; words_for(4)];
     /// let mut table = Table::fresh(&mut words)?;
     /// let key = Key::new(0x7E86_7A7A_1C00_4065)?;
     /// Worker::new().run(&mut table, Work::Insert, key)?;

@@ -15,8 +15,8 @@ pub enum Work {
 /// A worker's record. It cannot be copied: two records of one work would give up one lock twice. Use it on one table.
 ///
 /// ```
-/// use pannuqreik::{Answer, Key, Refusal, Table, Work, Worker};
-/// let mut words = [0; 8];
+/// use pannuqreik::{words_for, Answer, Key, Refusal, Table, Work, Worker};
+/// let mut words = [0; words_for(4)];
 /// let mut table = Table::fresh(&mut words)?;
 /// let key = Key::new(0x7E86_7A7A_1C00_4065)?;
 /// let mut culler = Worker::new();

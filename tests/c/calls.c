@@ -7,6 +7,16 @@
 #include <stdlib.h>
 #include <string.h>
 
+/* the fields of a slot's second word that this program looks at, from the top down */
+enum { STATE_BITS = 2, LINK_BITS = 10, LOCK_BITS = 6 };
+enum {
+    STATE_AT = 64 - STATE_BITS,
+    LEFT_AT = STATE_AT - LINK_BITS,
+    RIGHT_AT = LEFT_AT - LINK_BITS,
+    STATE_LOCK_AT = RIGHT_AT - LOCK_BITS
+};
+enum { DATA = 1, ROUTING = 2, DELETED = 3 };
+
 static int failures = 0;
 static int checks = 0;
 
@@ -21,13 +31,31 @@ static void expect_at(int line, uint64_t got, uint64_t want, const char *what)
 
 #define EXPECT(got, want) expect_at(__LINE__, (uint64_t)(got), (uint64_t)(want), #got)
 
+/* a word that no table has */
+static const uint64_t NO_TABLE = UINT64_C(0x5A5A5A5A5A5A5A5A);
+
 /* words of the heap, n of them, filled with what is no table */
 static uint64_t *words_of(size_t n)
 {
     uint64_t *words = malloc(n * sizeof *words);
     for (size_t i = 0; i < n; i++)
-        words[i] = UINT64_C(0x5A5A5A5A5A5A5A5A);
+        words[i] = NO_TABLE;
     return words;
+}
+
+static uint64_t *slot_key(uint64_t *words, size_t slot)
+{
+    return words + PANNUQREIK_SLOT_WORDS * slot;
+}
+
+static uint64_t *slot_fields(uint64_t *words, size_t slot)
+{
+    return slot_key(words, slot) + 1;
+}
+
+static uint64_t slot_state(uint64_t *words, size_t slot)
+{
+    return *slot_fields(words, slot) >> STATE_AT;
 }
 
 static uint64_t *record_of(void)
@@ -127,12 +155,12 @@ static void keys_and_texts(void)
 
 static void two_slots(void)
 {
-    const size_t n = 4;
+    const size_t n = 2 * PANNUQREIK_SLOT_WORDS;
     uint64_t *words = words_of(n), *a = record_of(), *b = record_of();
     uint64_t key = key_of(10, 2, 102);
     EXPECT(pannuqreik_check(words, n), PANNUQREIK_TABLE);
     EXPECT(pannuqreik_fresh(words, n), PANNUQREIK_DONE);
-    EXPECT(words[1], UINT64_C(0x4000000000000000));
+    EXPECT(*slot_fields(words, 0), UINT64_C(0x4000000000000000));
     EXPECT(pannuqreik_step(words, n, a, PANNUQREIK_RECORD_WORDS), PANNUQREIK_STATE);
     EXPECT(pannuqreik_start_insert(words, n, a, PANNUQREIK_RECORD_WORDS, 0), PANNUQREIK_RANGE);
     EXPECT(pannuqreik_start_insert(words, n, a, PANNUQREIK_RECORD_WORDS, key), PANNUQREIK_DONE);
@@ -146,19 +174,19 @@ static void two_slots(void)
     EXPECT(pannuqreik_step(words, n, b, PANNUQREIK_RECORD_WORDS), PANNUQREIK_GOING);
     EXPECT(b[2], 0);
     EXPECT(pannuqreik_withdraw(words, n, b, PANNUQREIK_RECORD_WORDS), PANNUQREIK_DONE);
-    EXPECT(words[1], UINT64_C(0x4000000040080000));
+    EXPECT(*slot_fields(words, 0), UINT64_C(0x4000000040080000));
     EXPECT(pannuqreik_sweep(words, n), PANNUQREIK_WORKING);
     EXPECT(pannuqreik_step(words, n, a, PANNUQREIK_RECORD_WORDS), PANNUQREIK_GOING);
     EXPECT(pannuqreik_step(words, n, a, PANNUQREIK_RECORD_WORDS), PANNUQREIK_GOING);
     EXPECT(pannuqreik_withdraw(words, n, a, PANNUQREIK_RECORD_WORDS), PANNUQREIK_STORED);
     EXPECT(pannuqreik_step(words, n, a, PANNUQREIK_RECORD_WORDS), PANNUQREIK_YES);
-    EXPECT(words[1], UINT64_C(0x4010000000000000));
+    EXPECT(*slot_fields(words, 0), UINT64_C(0x4010000000000000));
     /* a record that no record is: another length, a word that its phase does not note */
     EXPECT(pannuqreik_step(words, n, a, PANNUQREIK_RECORD_WORDS - 1), PANNUQREIK_DAMAGED);
     a[10] = 1;
     EXPECT(pannuqreik_step(words, n, a, PANNUQREIK_RECORD_WORDS), PANNUQREIK_DAMAGED);
     EXPECT(a[10], 1);
-    words[0] = 0;
+    *slot_key(words, 0) = 0;
     EXPECT(pannuqreik_step(words, n, a, PANNUQREIK_RECORD_WORDS), PANNUQREIK_TABLE);
     free(words);
     free(a);
@@ -167,16 +195,16 @@ static void two_slots(void)
 
 static void four_slots(void)
 {
-    const size_t n = 8;
+    const size_t n = 4 * PANNUQREIK_SLOT_WORDS;
     uint64_t *words = words_of(n), *r = record_of();
     const uint64_t a = key_of(9, 0, 1), b = key_of(10, 0, 2), c = key_of(11, 0, 3), d = key_of(12, 0, 4);
     EXPECT(pannuqreik_fresh(words, n), PANNUQREIK_DONE);
     EXPECT(insert(words, n, r, b, PANNUQREIK_YES), 5);
     insert(words, n, r, a, PANNUQREIK_YES);
     insert(words, n, r, c, PANNUQREIK_YES);
-    EXPECT(words[2], b);
-    EXPECT(words[4], a);
-    EXPECT(words[6], c);
+    EXPECT(*slot_key(words, 1), b);
+    EXPECT(*slot_key(words, 2), a);
+    EXPECT(*slot_key(words, 3), c);
     EXPECT(pannuqreik_start_lookup(words, n, r, PANNUQREIK_RECORD_WORDS, c), PANNUQREIK_DONE);
     EXPECT(run(words, n, r, PANNUQREIK_YES), 3);
     insert(words, n, r, c, PANNUQREIK_NO);
@@ -196,17 +224,17 @@ static void four_slots(void)
     EXPECT(pannuqreik_check(words, n), PANNUQREIK_YES);
 
     EXPECT(remove_key(words, n, r, b, PANNUQREIK_YES), 5);
-    EXPECT(words[3] >> 62, 2);
+    EXPECT(slot_state(words, 1), ROUTING);
     EXPECT(remove_key(words, n, r, a, PANNUQREIK_YES), 13);
-    EXPECT(words[3] >> 62, 3);
-    EXPECT(words[5] >> 62, 3);
-    EXPECT(words[1], UINT64_C(0x4030000000000000));
+    EXPECT(slot_state(words, 1), DELETED);
+    EXPECT(slot_state(words, 2), DELETED);
+    EXPECT(*slot_fields(words, 0), (uint64_t)DATA << STATE_AT | UINT64_C(3) << LEFT_AT);
     remove_key(words, n, r, a, PANNUQREIK_NO);
     insert(words, n, r, d, PANNUQREIK_FULL);
     EXPECT(pannuqreik_sweep(words, n), PANNUQREIK_DONE);
     insert(words, n, r, d, PANNUQREIK_YES);
-    EXPECT(words[2], d);
-    words[5] = 1;
+    EXPECT(*slot_key(words, 1), d);
+    *slot_fields(words, 2) = 1;
     EXPECT(pannuqreik_check(words, n), PANNUQREIK_NO);
     EXPECT(pannuqreik_list(words, n, 0, UINT64_MAX, out, 3, &count), PANNUQREIK_DAMAGED);
     EXPECT(pannuqreik_first(words, n, 0, &first), PANNUQREIK_DAMAGED);
@@ -218,26 +246,28 @@ static void four_slots(void)
 
 static void limits(void)
 {
-    uint64_t *words = words_of(2050);
-    EXPECT(pannuqreik_fresh(words, 2050), PANNUQREIK_TABLE);
-    EXPECT(pannuqreik_fresh(words, 5), PANNUQREIK_TABLE);
-    EXPECT(pannuqreik_fresh(words, 2), PANNUQREIK_TABLE);
+    enum { MORE_WORDS = PANNUQREIK_MOST_WORDS + PANNUQREIK_SLOT_WORDS, RECORDS = PANNUQREIK_MOST_WORKERS + 1 };
+    const size_t n = PANNUQREIK_MOST_WORDS;
+    uint64_t *words = words_of(MORE_WORDS);
+    EXPECT(pannuqreik_fresh(words, MORE_WORDS), PANNUQREIK_TABLE);
+    EXPECT(pannuqreik_fresh(words, PANNUQREIK_FEWEST_WORDS + 1), PANNUQREIK_TABLE);
+    EXPECT(pannuqreik_fresh(words, PANNUQREIK_SLOT_WORDS), PANNUQREIK_TABLE);
     EXPECT(pannuqreik_fresh(words, 0), PANNUQREIK_TABLE);
-    EXPECT(words[0], UINT64_C(0x5A5A5A5A5A5A5A5A));
-    EXPECT(pannuqreik_fresh(words, 2048), PANNUQREIK_DONE);
-    EXPECT(words[2048], UINT64_C(0x5A5A5A5A5A5A5A5A));
-    uint64_t *records[17], key = key_of(10, 2, 102);
-    for (int i = 0; i < 17; i++) {
+    EXPECT(words[0], NO_TABLE);
+    EXPECT(pannuqreik_fresh(words, n), PANNUQREIK_DONE);
+    EXPECT(words[n], NO_TABLE);
+    uint64_t *records[RECORDS], key = key_of(10, 2, 102);
+    for (int i = 0; i < RECORDS; i++) {
         records[i] = record_of();
-        EXPECT(pannuqreik_start_insert(words, 2048, records[i], PANNUQREIK_RECORD_WORDS, key),
+        EXPECT(pannuqreik_start_insert(words, n, records[i], PANNUQREIK_RECORD_WORDS, key),
                i < PANNUQREIK_MOST_WORKERS ? PANNUQREIK_DONE : PANNUQREIK_BUSY);
     }
     /* 16 readers on the root's state, by hand: an insert that wants to read it is refused 9 and may try again */
-    EXPECT(pannuqreik_step(words, 2048, records[0], PANNUQREIK_RECORD_WORDS), PANNUQREIK_GOING);
-    EXPECT(pannuqreik_step(words, 2048, records[0], PANNUQREIK_RECORD_WORDS), PANNUQREIK_GOING);
-    words[1] += UINT64_C(32) << 36;
-    EXPECT(pannuqreik_step(words, 2048, records[0], PANNUQREIK_RECORD_WORDS), PANNUQREIK_READERS);
-    for (int i = 0; i < 17; i++)
+    EXPECT(pannuqreik_step(words, n, records[0], PANNUQREIK_RECORD_WORDS), PANNUQREIK_GOING);
+    EXPECT(pannuqreik_step(words, n, records[0], PANNUQREIK_RECORD_WORDS), PANNUQREIK_GOING);
+    *slot_fields(words, 0) += UINT64_C(32) << STATE_LOCK_AT;
+    EXPECT(pannuqreik_step(words, n, records[0], PANNUQREIK_RECORD_WORDS), PANNUQREIK_READERS);
+    for (int i = 0; i < RECORDS; i++)
         free(records[i]);
     free(words);
 }

@@ -10,6 +10,9 @@ mod plain;
 #[allow(dead_code)]
 mod raw;
 
+use judged::rules::{
+    links, BUSY, BUSY_AT, FIELDS, KEY, LEFT_LOCK_AT, LOCK, RIGHT_LOCK_AT, ROOT_REST, SEAT, SLOT_WORDS, STATE_AT, STATE_LOCK_AT,
+};
 use judged::Judged;
 use plain::{Plain, IDLE};
 use std::collections::BTreeSet;
@@ -60,7 +63,7 @@ const NO: u64 = 17;
 
 /// The end of a work written by hand: the seat is given up, and the record is idle.
 fn over<R>(record: &mut R, idle: R, words: &mut [u64], answer: u64) -> u64 {
-    words[1] -= 1 << 19;
+    words[FIELDS] -= SEAT;
     *record = idle;
     answer
 }
@@ -148,7 +151,7 @@ fn keys(n: usize, day: u64) -> Vec<u64> {
 
 /// A table three quarters full.
 fn filled(slots: usize) -> (Library, Vec<u64>) {
-    let mut l = Library { words: vec![0; 2 * slots], record: [0; raw::RECORD_WORDS] };
+    let mut l = Library { words: vec![0; raw::words_for(slots)], record: [0; raw::RECORD_WORDS] };
     assert_eq!(raw::fresh(&mut l.words), 0);
     let keys = keys(slots * 3 / 4, 15);
     for key in &keys {
@@ -188,10 +191,13 @@ fn time<W: Works + Clone>(from: &W, keys: &[u64], change: bool) -> (f64, f64, Ve
 /// Every pair decoded, and every field folded in, so that none can be left out: key, state, links, locks, busy, zeros.
 fn scan(words: &[u64]) -> u64 {
     let mut all = 0u64;
-    for pair in words.chunks_exact(2) {
-        let w = pair[1];
-        let (links, locks) = ([w >> 52 & 1023, w >> 42 & 1023], [w >> 36 & 63, w >> 30 & 63, w >> 24 & 63]);
-        let fields = [pair[0], w >> 62, links[0], links[1], locks[0], locks[1], locks[2], w >> 19 & 31, w & 0x7ffff];
+    for slot in words.chunks_exact(SLOT_WORDS) {
+        let w = slot[FIELDS];
+        let (left, right) = links(w);
+        let [own, left_edge, right_edge] = [STATE_LOCK_AT, LEFT_LOCK_AT, RIGHT_LOCK_AT].map(|at| w >> at & LOCK);
+        let busy = w >> BUSY_AT & BUSY;
+        let (left, right) = (left as u64, right as u64);
+        let fields = [slot[KEY], w >> STATE_AT, left, right, own, left_edge, right_edge, busy, w & ROOT_REST];
         all = fields.iter().fold(all, |a, f| a.rotate_left(5) ^ f);
     }
     all
@@ -274,7 +280,7 @@ fn count(who: &str, what: &str, slots: usize, n: u64) {
     let p = Table { words: l.words.clone(), record: IDLE };
     let j = Table { words: l.words.clone(), record: judged::IDLE };
     let t = Tree(keys.iter().copied().collect());
-    let (change, mut words, mut out) = (what == "change", l.words.clone(), vec![0; 2 * slots]);
+    let (change, mut words, mut out) = (what == "change", l.words.clone(), vec![0; l.words.len()]);
     let mut case = cases::table(what, slots);
     let mut one = (1, 1);
     for _ in 0..n {

@@ -1,7 +1,7 @@
 // Steps and starts of the library that are not the usual ones: what a rare case costs beside the usual one. A case takes the
 // judgements that one test makes of nearly all steps and fails them: a key of the last days of a month, a lock held on the
 // root, on both, on every slot that is passed; a start, and one with a key that is not legal.
-use super::judged::rules::STATE_LOCK;
+use super::judged::rules::{FIELDS, SLOT_WORDS, STATE_LOCK};
 use super::raw;
 use super::{keys, Library, Works, INSERT, LOOKUP};
 
@@ -11,17 +11,17 @@ const READER: u64 = 2 * STATE_LOCK;
 /// A table three quarters full of such keys, in a random order, as the case has it.
 pub fn table(case: &str, slots: usize) -> (Library, Vec<u64>) {
     let keys = keys(slots * 3 / 4, if case.starts_with("late-day") { 30 } else { 15 });
-    let mut l = Library { words: vec![0; 2 * slots], record: [0; raw::RECORD_WORDS] };
+    let mut l = Library { words: vec![0; raw::words_for(slots)], record: [0; raw::RECORD_WORDS] };
     assert_eq!(raw::fresh(&mut l.words), 0);
     for key in &keys {
         l.work(INSERT, *key);
     }
     if case.ends_with("locked-root") {
-        l.words[1] += READER;
+        l.words[FIELDS] += READER;
     }
     if case == "locked-slots" {
-        for pair in l.words.chunks_exact_mut(2).skip(1).filter(|p| p[1] != 0) {
-            pair[1] += READER;
+        for slot in l.words.chunks_exact_mut(SLOT_WORDS).skip(1).filter(|s| s[FIELDS] != 0) {
+            slot[FIELDS] += READER;
         }
     }
     (l, keys)

@@ -11,8 +11,8 @@ mod plan;
 pub mod rules;
 
 use rules::{
-    judged_root, legal, legal_at_once, links, links_at_once, pair_fine, root_at_once, root_busy, rooted, Pairs, DATA, DELETED,
-    MOST_BUSY, ROOT_EMPTY, ROOT_SEATED, ROUTING, SEAT, STATE,
+    judged_root, legal, legal_at_once, links, links_at_once, pair_fine, root_at_once, root_busy, rooted, Pairs, Slot, DATA,
+    DELETED, FIELDS, MOST_BUSY, ROOT_EMPTY, ROOT_SEATED, ROUTING, SEAT, STATE,
 };
 
 /// What a step answers.
@@ -101,7 +101,7 @@ impl Judged {
     /// A start that can't be told at once.
     #[inline(never)]
     fn start_late(&mut self, pairs: &mut Pairs, work: u64, key: u64) -> u64 {
-        let Some(busy) = root_busy(pairs[0][1], pairs.len()) else { return BROKEN };
+        let Some(busy) = root_busy(pairs[0][FIELDS], pairs.len()) else { return BROKEN };
         if !self.is_record() {
             return DAMAGED;
         }
@@ -119,15 +119,15 @@ impl Judged {
 
     #[inline(always)]
     fn begin(&mut self, pairs: &mut Pairs, work: u64, key: u64) -> u64 {
-        pairs[0][1] += SEAT;
+        pairs[0][FIELDS] += SEAT;
         *self = Judged { work, key, ..IDLE };
         GOING
     }
 
     /// The end of a work: the seat is given up, and the record is idle.
     #[inline(always)]
-    fn over(&mut self, root: &mut [u64; 2], answer: u64) -> u64 {
-        root[1] -= SEAT;
+    fn over(&mut self, root: &mut Slot, answer: u64) -> u64 {
+        root[FIELDS] -= SEAT;
         *self = IDLE;
         answer
     }
@@ -191,7 +191,7 @@ impl Judged {
         if !self.walks() || !self.walk_roles(slots) {
             return self.refused();
         }
-        let Some(&[found, word]) = pairs.get(self.this as usize) else { return DAMAGED };
+        let Some(&[found, word, ..]) = pairs.get(self.this as usize) else { return DAMAGED };
         let Some((left, right)) = links_at_once(word) else { return self.visit_late(pairs) };
         // both ways out say damaged; they are two, so that the compiler makes two branches of the tests, which is shorter
         if left >= slots {
@@ -221,7 +221,7 @@ impl Judged {
     /// Goes on from a slot whose pair can't be told at once.
     #[inline(never)]
     fn visit_late(&mut self, pairs: &mut Pairs) -> u64 {
-        let [found, word] = pairs[self.this as usize];
+        let [found, word, ..] = pairs[self.this as usize];
         if !pair_fine(word, pairs.len()) {
             return DAMAGED;
         }
@@ -248,7 +248,7 @@ impl Judged {
 
     /// The walk ends below this slot, on a side.
     #[inline(never)]
-    fn at_nothing(&mut self, root: &mut [u64; 2], side: u64) -> u64 {
+    fn at_nothing(&mut self, root: &mut Slot, side: u64) -> u64 {
         if self.work != INSERT {
             return self.over(root, NO);
         }
@@ -260,7 +260,7 @@ impl Judged {
     #[inline(never)]
     fn found(&mut self, pairs: &mut Pairs) -> u64 {
         let Judged { work, key, this, prev, side, .. } = *self;
-        let Some(&[_, word]) = pairs.get(this as usize) else { return DAMAGED };
+        let Some(&[_, word, ..]) = pairs.get(this as usize) else { return DAMAGED };
         match (work, word & STATE) {
             (LOOKUP, DATA) => return self.over(&mut pairs[0], YES),
             (INSERT, DELETED) => return self.restart(),

@@ -1,7 +1,8 @@
 // Locks and stores of steps_judged.rs: each on one word, after the pair has been judged.
 
 use super::rules::{
-    crowded, link_field, link_to, lock_field, pair_fine, reader_bits, written, Pairs, DATA, DELETED, LINKS, ROUTING, STATE,
+    crowded, link_field, link_to, lock_field, pair_fine, reader_bits, written, Pairs, DATA, DELETED, FIELDS, LINKS, ROUTING,
+    STATE,
 };
 use super::{Judged, CROWDED, DAMAGED, GOING};
 
@@ -36,21 +37,21 @@ pub fn since(least: u64, done: u64, lock: u64) -> u64 {
 /// Does a pair keep the rules? Rule 1 has judged the root's.
 #[inline(always)]
 pub fn fine(pairs: &Pairs, slot: u64) -> bool {
-    slot == 0 || pair_fine(pairs[slot as usize][1], pairs.len())
+    slot == 0 || pair_fine(pairs[slot as usize][FIELDS], pairs.len())
 }
 
 /// Gives locks up, if each is held and each pair that has one keeps the rules.
 #[inline(always)]
 fn give_up<const N: usize>(pairs: &mut Pairs, held: [Held; N]) -> bool {
     for (slot, writes, reads) in held {
-        let word = pairs[slot as usize][1];
+        let word = pairs[slot as usize][FIELDS];
         let lost = word & writes != writes || reads != 0 && word & reader_bits(reads) == 0;
         if writes | reads != 0 && (lost || !fine(pairs, slot)) {
             return false;
         }
     }
     for (slot, writes, reads) in held {
-        pairs[slot as usize][1] -= writes + 2 * reads;
+        pairs[slot as usize][FIELDS] -= writes + 2 * reads;
     }
     true
 }
@@ -85,21 +86,21 @@ impl Judged {
     /// Takes a lock to write; none where it can't be had.
     #[inline(always)]
     pub(super) fn write(&mut self, pairs: &mut Pairs, slot: u64, lock: u64, (mask, value): Bits) -> Option<u64> {
-        let word = pairs[slot as usize][1];
+        let word = pairs[slot as usize][FIELDS];
         if !fine(pairs, slot) {
             return Some(DAMAGED);
         }
         if word >= DELETED || word & (mask | lock_field(lock)) != value {
             return None;
         }
-        pairs[slot as usize][1] = word + lock;
+        pairs[slot as usize][FIELDS] = word + lock;
         Some(self.went())
     }
 
     /// Takes a lock to read; none where it can't be had.
     #[inline(always)]
     pub(super) fn read(&mut self, pairs: &mut Pairs, slot: u64, lock: u64, (mask, value): Bits) -> Option<u64> {
-        let word = pairs[slot as usize][1];
+        let word = pairs[slot as usize][FIELDS];
         if !fine(pairs, slot) {
             return Some(DAMAGED);
         }
@@ -109,18 +110,18 @@ impl Judged {
         if crowded(word, lock) {
             return Some(CROWDED);
         }
-        pairs[slot as usize][1] = word + 2 * lock;
+        pairs[slot as usize][FIELDS] = word + 2 * lock;
         Some(self.went())
     }
 
     /// Stores a state or a link.
     #[inline(always)]
     pub(super) fn store(&mut self, pairs: &mut Pairs, slot: u64, (mask, value): Bits) -> u64 {
-        let word = pairs[slot as usize][1];
+        let word = pairs[slot as usize][FIELDS];
         if !fine(pairs, slot) {
             return DAMAGED;
         }
-        pairs[slot as usize][1] = word & !mask | value;
+        pairs[slot as usize][FIELDS] = word & !mask | value;
         self.went()
     }
 }

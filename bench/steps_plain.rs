@@ -1,6 +1,10 @@
 // The same steps on the same words, as one would write them in Rust: no proof, and nothing judged. A table or a record that
 // is damaged makes it panic or go astray. Only for comparison; bench/steps.rs checks that it leaves the same words.
 
+use super::judged::rules::{
+    FIELDS, KEY, LEFT_AT, LEFT_LOCK_AT, LINK, LINK_BITS, LOCK, RIGHT_AT, RIGHT_LOCK_AT, SEAT, SLOT_WORDS, STATE_AT, STATE_BITS,
+    STATE_LOCK_AT,
+};
 use super::{over, FULL, GOING, NO, YES};
 
 const FREE: u64 = 0;
@@ -8,8 +12,8 @@ const DATA: u64 = 1;
 const ROUTING: u64 = 2;
 const DELETED: u64 = 3;
 
-const LINK: [u32; 2] = [52, 42];
-const LOCK: [u32; 3] = [36, 30, 24];
+const LINK_AT: [u32; 2] = [LEFT_AT, RIGHT_AT];
+const LOCK_AT: [u32; 3] = [STATE_LOCK_AT, LEFT_LOCK_AT, RIGHT_LOCK_AT];
 
 #[derive(Clone, Copy)]
 pub enum Phase {
@@ -41,32 +45,40 @@ pub struct Plain {
 pub const IDLE: Plain =
     Plain { work: 0, key: 0, phase: Phase::Walk, this: 0, prev: 0, side: 0, before: 0, up: 0, other: 0, toward: 0 };
 
+fn key_place(i: usize) -> usize {
+    SLOT_WORDS * i + KEY
+}
+
+fn fields_place(i: usize) -> usize {
+    SLOT_WORDS * i + FIELDS
+}
+
 fn state(words: &[u64], i: usize) -> u64 {
-    words[2 * i + 1] >> 62
+    words[fields_place(i)] >> STATE_AT
 }
 
 fn link(words: &[u64], i: usize, side: usize) -> usize {
-    (words[2 * i + 1] >> LINK[side] & 1023) as usize
+    (words[fields_place(i)] >> LINK_AT[side] & LINK) as usize
 }
 
 fn set(words: &mut [u64], i: usize, at: u32, width: u32, value: u64) {
-    let w = &mut words[2 * i + 1];
+    let w = &mut words[fields_place(i)];
     *w = *w & !(((1 << width) - 1) << at) | value << at;
 }
 
 fn set_state(words: &mut [u64], i: usize, to: u64) {
-    set(words, i, 62, 2, to);
+    set(words, i, STATE_AT, STATE_BITS, to);
 }
 
 fn set_link(words: &mut [u64], i: usize, side: usize, to: usize) {
-    set(words, i, LINK[side], 10, to as u64);
+    set(words, i, LINK_AT[side], LINK_BITS, to as u64);
 }
 
 type Lock = (usize, usize, bool);
 
 impl Plain {
     pub fn start(&mut self, words: &mut [u64], work: u64, key: u64) {
-        words[1] += 1 << 19;
+        words[fields_place(0)] += SEAT;
         *self = Plain { work, key, ..IDLE };
     }
 
@@ -96,7 +108,7 @@ impl Plain {
     fn give_up(&self, words: &mut [u64], n: usize) {
         let (locks, _) = self.locks();
         for (slot, field, write) in &locks[..n] {
-            words[2 * slot + 1] -= (if *write { 1 } else { 2 }) << LOCK[*field];
+            words[fields_place(*slot)] -= (if *write { 1 } else { 2 }) << LOCK_AT[*field];
         }
     }
 
@@ -107,7 +119,7 @@ impl Plain {
 
     fn walk(&mut self, words: &mut [u64]) -> u64 {
         let at = self.this;
-        let key = words[2 * at];
+        let key = words[key_place(at)];
         if key == self.key {
             return self.found(words, at);
         }
@@ -186,13 +198,13 @@ impl Plain {
         let (locks, count) = self.locks();
         if (n as usize) < count {
             let (slot, field, write) = locks[n as usize];
-            let x = words[2 * slot + 1] >> LOCK[field] & 63;
+            let x = words[fields_place(slot)] >> LOCK_AT[field] & LOCK;
             let free = if write { x == 0 } else { x != 1 };
             if !free || !self.expects(words, n) {
                 self.give_up(words, n as usize);
                 return self.restart();
             }
-            words[2 * slot + 1] += (if write { 1 } else { 2 }) << LOCK[field];
+            words[fields_place(slot)] += (if write { 1 } else { 2 }) << LOCK_AT[field];
             return GOING;
         }
         match (self.phase, n as usize - count) {
@@ -213,12 +225,12 @@ impl Plain {
     }
 
     fn new_slot(&mut self, words: &mut [u64]) -> u64 {
-        let Some(free) = (1..words.len() / 2).find(|i| state(words, *i) == FREE) else {
+        let Some(free) = (1..words.len() / SLOT_WORDS).find(|i| state(words, *i) == FREE) else {
             self.give_up(words, 2);
             return over(self, IDLE, words, FULL);
         };
-        words[2 * free] = self.key;
-        words[2 * free + 1] = DATA << 62;
+        words[key_place(free)] = self.key;
+        words[fields_place(free)] = DATA << STATE_AT;
         set_link(words, self.prev, self.side, free);
         GOING
     }

@@ -2,7 +2,8 @@
 
 use super::locks::{fine, leads, since, Held, ALL, IS_DATA, IS_LEAF, IS_ROUTING, NO_MORE};
 use super::rules::{
-    edge_lock, judged_root, legal, link, link_field, link_to, rooted, Pairs, DATA, DELETED, ROUTING, STATE, STATE_LOCK,
+    edge_lock, judged_root, legal, link, link_field, link_to, rooted, Pairs, DATA, DELETED, FIELDS, KEY, ROUTING, SLOT_WORDS,
+    STATE, STATE_LOCK,
 };
 use super::{
     Judged, BROKEN, DAMAGED, FULL, GOING, INSERT, LEAF, NEW, ONE, ON_ROUTING, REMOVE, TWO, UNDER_DATA, UNDER_ROUTING, YES,
@@ -14,12 +15,12 @@ fn lowest_free(pairs: &Pairs) -> Option<usize> {
     let (turns, rest) = pairs.as_chunks::<TURN>();
     for (i, turn) in turns.iter().enumerate() {
         for (j, pair) in turn.iter().enumerate() {
-            if pair[1] < DATA {
+            if pair[FIELDS] < DATA {
                 return Some(TURN * i + j);
             }
         }
     }
-    let j = rest.iter().position(|pair| pair[1] < DATA)?;
+    let j = rest.iter().position(|pair| pair[FIELDS] < DATA)?;
     Some(TURN * turns.len() + j)
 }
 
@@ -55,7 +56,7 @@ impl Judged {
         let (from, to) = if work == INSERT { (IS_ROUTING, IS_DATA) } else { (IS_DATA, IS_ROUTING) };
         match self.done {
             0 => {
-                let word = pairs[this as usize][1];
+                let word = pairs[this as usize][FIELDS];
                 let two = link(word, 0) != 0 && link(word, 1) != 0;
                 if work == INSERT || two || !fine(pairs, this) {
                     self.write(pairs, this, STATE_LOCK, from).unwrap_or_else(|| self.restart())
@@ -96,11 +97,11 @@ impl Judged {
             return DAMAGED;
         }
         let Some(free) = lowest_free(pairs) else { return self.end(pairs, held, FULL) };
-        if pairs[free] != [0, 0] {
+        if pairs[free] != [0; SLOT_WORDS] {
             return DAMAGED;
         }
-        pairs[free] = [self.key, DATA];
-        let word = &mut pairs[prev as usize][1];
+        (pairs[free][KEY], pairs[free][FIELDS]) = (self.key, DATA);
+        let word = &mut pairs[prev as usize][FIELDS];
         *word = *word & !link_field(side) | link_to(side, free as u64);
         self.went()
     }
@@ -140,7 +141,7 @@ impl Judged {
         if !fine(pairs, self.prev) {
             return DAMAGED;
         }
-        let word = pairs[self.prev as usize][1];
+        let word = pairs[self.prev as usize][FIELDS];
         let other = link(word, 1 - self.side);
         match word & STATE {
             DATA => (self.phase, self.before, self.up) = (UNDER_DATA, 0, 0),

@@ -1,21 +1,27 @@
 // The words of a table and the specification's judgements of them, for steps_judged.rs: each by as few tests as it takes.
-// The layout of a slot's second word stands here alone, and all that depends on it follows from it.
+// The layout of a slot stands here alone, for all of the bench, and all that depends on it follows from it.
 
-/// Key and second word of each slot.
-pub type Pairs = [[u64; 2]];
+/// How many words a slot has.
+pub const SLOT_WORDS: usize = 2;
+/// The word of a slot that is its key, and the one that its fields are in: state, links, locks.
+pub const KEY: usize = 0;
+pub const FIELDS: usize = 1;
+pub type Slot = [u64; SLOT_WORDS];
+/// The words of each slot.
+pub type Pairs = [Slot];
 
-const STATE_BITS: u32 = 2;
-const LINK_BITS: u32 = 10;
+pub const STATE_BITS: u32 = 2;
+pub const LINK_BITS: u32 = 10;
 const LOCK_BITS: u32 = 6;
 const BUSY_BITS: u32 = 5;
 
-const STATE_AT: u32 = u64::BITS - STATE_BITS;
-const LEFT_AT: u32 = STATE_AT - LINK_BITS;
-const RIGHT_AT: u32 = LEFT_AT - LINK_BITS;
-const STATE_LOCK_AT: u32 = RIGHT_AT - LOCK_BITS;
-const LEFT_LOCK_AT: u32 = STATE_LOCK_AT - LOCK_BITS;
-const RIGHT_LOCK_AT: u32 = LEFT_LOCK_AT - LOCK_BITS;
-const BUSY_AT: u32 = RIGHT_LOCK_AT - BUSY_BITS;
+pub const STATE_AT: u32 = u64::BITS - STATE_BITS;
+pub const LEFT_AT: u32 = STATE_AT - LINK_BITS;
+pub const RIGHT_AT: u32 = LEFT_AT - LINK_BITS;
+pub const STATE_LOCK_AT: u32 = RIGHT_AT - LOCK_BITS;
+pub const LEFT_LOCK_AT: u32 = STATE_LOCK_AT - LOCK_BITS;
+pub const RIGHT_LOCK_AT: u32 = LEFT_LOCK_AT - LOCK_BITS;
+pub const BUSY_AT: u32 = RIGHT_LOCK_AT - BUSY_BITS;
 
 /// A state, in its place: states compare as the words do.
 pub const DATA: u64 = 1 << STATE_AT;
@@ -23,7 +29,7 @@ pub const ROUTING: u64 = 2 << STATE_AT;
 pub const DELETED: u64 = 3 << STATE_AT;
 pub const STATE: u64 = 3 << STATE_AT;
 
-const LINK: u64 = (1 << LINK_BITS) - 1;
+pub const LINK: u64 = (1 << LINK_BITS) - 1;
 pub const LINKS: u64 = LINK << LEFT_AT | LINK << RIGHT_AT;
 
 const LEAST_SLOTS: usize = 2;
@@ -32,12 +38,16 @@ const MOST_SLOTS: usize = 1 << LINK_BITS;
 /// One writer of a lock, in its place. A reader counts two of them.
 pub const STATE_LOCK: u64 = 1 << STATE_LOCK_AT;
 const LOCK_UNITS: u64 = STATE_LOCK | 1 << LEFT_LOCK_AT | 1 << RIGHT_LOCK_AT;
-const LOCK: u64 = (1 << LOCK_BITS) - 1;
+pub const LOCK: u64 = (1 << LOCK_BITS) - 1;
 const MOST_READERS: u64 = 16;
 
-/// One worker busy, in its place.
+/// One worker busy, in its place, and what the count of them may hold.
 pub const SEAT: u64 = 1 << BUSY_AT;
+pub const BUSY: u64 = (1 << BUSY_BITS) - 1;
 pub const MOST_BUSY: u64 = 16;
+
+/// The bits of a root's word that no field has.
+pub const ROOT_REST: u64 = SEAT - 1;
 
 const ROOT_KEY: u64 = u64::MAX;
 
@@ -121,17 +131,19 @@ pub fn links_at_once(word: u64) -> Option<(usize, usize)> {
     Some(((turned >> LINK_BITS & LINK) as usize, (turned & LINK) as usize))
 }
 
-/// The pairs, and the root's word: where the size is one that tables have, and the root has its key. A turn by one bit makes
-/// a number of words that is odd too large.
+/// The pairs, and the root's word: where the size is one that tables have, and the root has its key. A turn makes a number of
+/// words that is no slots' too large, as long as a slot's words are a power of two.
 #[inline(always)]
 pub fn rooted(words: &mut [u64]) -> Option<(&mut Pairs, u64)> {
-    let beyond_least = words.len().wrapping_sub(2 * LEAST_SLOTS).rotate_right(1);
+    const TURN: u32 = SLOT_WORDS.ilog2();
+    const _: () = assert!(1 << TURN == SLOT_WORDS);
+    let beyond_least = words.len().wrapping_sub(SLOT_WORDS * LEAST_SLOTS).rotate_right(TURN);
     if beyond_least > MOST_SLOTS - LEAST_SLOTS {
         return None;
     }
-    let (pairs, _) = words.as_chunks_mut::<2>();
+    let (pairs, _) = words.as_chunks_mut::<SLOT_WORDS>();
     match *pairs.first()? {
-        [ROOT_KEY, word] => Some((pairs, word)),
+        [ROOT_KEY, word, ..] => Some((pairs, word)),
         _ => None,
     }
 }
@@ -152,9 +164,9 @@ pub fn root_at_once(word: u64, least: u64, slots: usize) -> bool {
 /// How many are busy, by a root's word that keeps rule 1.
 #[inline(never)]
 pub fn root_busy(word: u64, slots: usize) -> Option<u64> {
-    let busy = word >> BUSY_AT & ((1 << BUSY_BITS) - 1);
+    let busy = word >> BUSY_AT & BUSY;
     let (left, right) = links(word);
-    let rest = word & (SEAT - 1);
+    let rest = word & ROOT_REST;
     let fine = word & STATE == DATA && left < slots && right == 0 && rest == 0 && busy <= MOST_BUSY && locks_fine(word);
     if fine {
         Some(busy)

@@ -4,14 +4,13 @@
 //! with yes exactly if it did; every no, and each answer to a lookup, was true at some moment since the start; a lookup ends
 //! within as many steps as there are slots. Where nobody is busy, each work run alone is held to the second demand.
 mod common;
+use common::reference::layout::words_for;
+use common::reference::table::{key, pair, slots};
+use common::reference::{FREE, INSERT, LOOKUP, REMOVE, ROUTING};
 use common::states::{Past, State, Stir, World, RECORD};
 use pannuqreik::raw;
 use std::collections::HashSet;
 use std::hash::BuildHasherDefault;
-
-const LOOKUP: u64 = 1;
-const INSERT: u64 = 2;
-const REMOVE: u64 = 3;
 
 fn start(words: &mut [u64], record: &mut [u64], work: u64, key: u64) -> u64 {
     match work {
@@ -19,6 +18,16 @@ fn start(words: &mut [u64], record: &mut [u64], work: u64, key: u64) -> u64 {
         INSERT => raw::start_insert(words, record, key),
         _ => raw::start_remove(words, record, key),
     }
+}
+
+/// Is no slot free?
+fn full(words: &[u64]) -> bool {
+    (0..slots(words)).all(|i| pair(words, i).state != FREE)
+}
+
+/// Is the key in a routing slot?
+fn routes(words: &[u64], wanted: u64) -> bool {
+    (0..slots(words)).any(|i| key(words, i) == wanted && pair(words, i).state == ROUTING)
 }
 
 fn note(p: &mut Past, is_in: bool) {
@@ -76,7 +85,7 @@ impl World {
             raw::YES => assert!(p.changed, "yes, and nothing changed"),
             raw::NO if work == INSERT => assert!(!p.changed && p.was_in, "no, and it never was in"),
             raw::NO => assert!(!p.changed && p.was_out, "no, and it never was out"),
-            raw::FULL => assert!(work == INSERT && !p.changed && before.words.chunks(2).all(|w| w[1] >> 62 != 0)),
+            raw::FULL => assert!(work == INSERT && !p.changed && full(&before.words)),
             n => panic!("an honest step was refused {n}"),
         }
         if said != raw::DONE {
@@ -88,17 +97,15 @@ impl World {
 
     /// Whole works run alone, where nobody is busy: within slots plus 10 steps, with the answer that the set gives.
     fn alone(&self, s: &State, set: u64) {
-        let full = s.words.chunks(2).all(|w| w[1] >> 62 != 0);
         for (work, key) in self.works() {
             let (mut words, mut record) = (s.words.clone(), [0; RECORD]);
             assert_eq!(start(&mut words, &mut record, work, key), 0);
             let last = (0..self.slots + 10).map(|_| raw::step(&mut words, &mut record)).find(|a| *a != raw::DONE);
             let (is_in, after) = (set & self.bit(key) != 0, self.set(&words));
-            let routing = s.words.chunks(2).any(|w| w[0] == key && w[1] >> 62 == 2);
             let right = match (work, is_in) {
                 (LOOKUP, true) | (REMOVE, true) => raw::YES,
                 (LOOKUP, false) | (REMOVE, false) | (INSERT, true) => raw::NO,
-                _ if full && !routing => raw::FULL,
+                _ if full(&s.words) && !routes(&s.words, key) => raw::FULL,
                 _ => raw::YES,
             };
             assert_eq!(last, Some(right));
@@ -155,7 +162,7 @@ impl World {
 /// Explores all; how many states and calls there were.
 fn explore(slots: usize, keys: u64) -> (usize, u64) {
     let world = World::new(slots, keys);
-    let mut words = vec![0; 2 * slots];
+    let mut words = vec![0; words_for(slots)];
     assert_eq!(raw::fresh(&mut words), 0);
     let first = world.pack(&State { words, records: [[0; RECORD]; 2], pasts: [Past::default(); 2] });
     let mut seen: HashSet<u128, BuildHasherDefault<Stir>> = HashSet::default();

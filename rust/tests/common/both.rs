@@ -1,5 +1,7 @@
 //! The same calls on one state that is kept twice, by the reference and by what is compared with it: honest runs, and
 //! states that are damaged.
+use super::reference::layout::{fields_place, slots_in, words_for, LINKS, LOCKS, STATE};
+use super::reference::layout::{MOST_BUSY, MOST_READERS, MOST_SLOTS};
 use super::{reference, some_key, Random};
 use pannuqreik::raw;
 use std::marker::PhantomData;
@@ -40,7 +42,7 @@ pub struct Both<C> {
 
 impl<C: Compared> Both<C> {
     pub fn fresh(slots: usize, workers: usize, r: &mut Random) -> Both<C> {
-        let words: Vec<u64> = (0..2 * slots).map(|_| r.next()).collect();
+        let words: Vec<u64> = (0..words_for(slots)).map(|_| r.next()).collect();
         let records = vec![[0; RECORD]; workers];
         let (twin, twins) = (words.clone(), records.clone());
         let mut both = Both { words, twin, records, twins, calls: 0, compared: PhantomData };
@@ -117,9 +119,9 @@ pub fn honest_runs<C: Compared>(most: u64) {
     let (mut r, mut made) = (Random(1), 0);
     let mut answers = [0u64; 18];
     while made < most {
-        let slots = *r.pick(&[2, 3, 4, 5, 8, 16, 40, 64, 256, 1024]);
-        let workers = 1 + r.below(16) as usize;
-        let spread = *r.pick(&[3, 6, slots as u64, 2 * slots as u64]);
+        let slots = *r.pick(&[2, 3, 4, 5, 8, 16, 40, 64, 256, MOST_SLOTS]);
+        let workers = 1 + r.below(MOST_BUSY) as usize;
+        let spread = *r.pick(&[3, 6, slots, slots + slots]) as u64;
         let mut both = Both::<C>::fresh(slots, workers, &mut r);
         for _ in 0..(most / 50).clamp(2_000, 200_000) {
             honest(&mut both, &mut r, spread);
@@ -171,9 +173,9 @@ fn damage(words: &mut [u64], r: &mut Random) {
     match r.below(6) {
         0 => words[i] = r.next(),
         1 => words[i] = 0,
-        2 => words[i] ^= r.below(64) << [24, 30, 36][r.below(3) as usize],
-        3 => words[i] ^= r.below(8) << [42, 52][r.below(2) as usize],
-        4 => words[i] ^= r.below(4) << 62,
+        2 => words[i] ^= r.pick(&LOCKS).holding(r.below(LOCKS[0].size())),
+        3 => words[i] ^= r.pick(&LINKS).holding(r.below(8)),
+        4 => words[i] ^= STATE.holding(r.below(STATE.size())),
         _ => words[i] ^= 1 << r.below(64),
     }
 }
@@ -203,7 +205,7 @@ fn every_call<C: Compared>(both: &Both<C>, r: &mut Random, made: &mut u64, refus
 
 /// The state with some of its words and records damaged.
 fn damaged<C: Compared>(both: &Both<C>, r: &mut Random) -> Both<C> {
-    let (mut b, slots) = (both.clone(), both.words.len() as u64 / 2);
+    let (mut b, slots) = (both.clone(), slots_in(both.words.len()) as u64);
     for _ in 0..r.below(3) {
         damage(&mut b.words, r);
     }
@@ -211,7 +213,7 @@ fn damaged<C: Compared>(both: &Both<C>, r: &mut Random) -> Both<C> {
         b.words.pop();
     }
     if r.one_in(30) {
-        b.words.resize(2 * 1025, 0);
+        b.words.resize(words_for(MOST_SLOTS + 1), 0);
     }
     b.twin = b.words.clone();
     for i in 0..b.records.len() {
@@ -231,7 +233,7 @@ pub fn damaged_runs<C: Compared>(most: u64) -> [u64; 18] {
     let (mut r, mut made) = (Random(2), 0);
     let mut seen = [0; 18];
     while made < most {
-        let slots = if r.one_in(60) { 1024 } else { *r.pick(&[2, 3, 4, 5, 6, 8, 16]) };
+        let slots = if r.one_in(60) { MOST_SLOTS } else { *r.pick(&[2, 3, 4, 5, 6, 8, 16]) };
         let mut both = Both::<C>::fresh(slots, 1 + r.below(6) as usize, &mut r);
         for _ in 0..r.below(120) {
             honest(&mut both, &mut r, 6);
@@ -248,20 +250,21 @@ pub fn damaged_runs<C: Compared>(most: u64) -> [u64; 18] {
 /// Readers and seats up to the limit.
 pub fn limits<C: Compared>() {
     let mut r = Random(5);
-    let mut both = Both::<C>::fresh(8, 17, &mut r);
+    let most = MOST_BUSY as usize;
+    let mut both = Both::<C>::fresh(8, most + 1, &mut r);
     let (a, b) = (some_key(&mut r, 1), some_key(&mut Random(9), 4000));
     assert_ne!(a, b);
-    for i in 0..16 {
+    for i in 0..most {
         assert_eq!(both.start(i, reference::INSERT, b), 0);
     }
-    assert_eq!(both.start(16, reference::INSERT, b), 4);
-    // a table by hand: the root's state lock has 15, 16 readers, and an insert wants to read it
-    for (readers, answer) in [(30, 0), (32, 9)] {
+    assert_eq!(both.start(most, reference::INSERT, b), 4);
+    // a table by hand: the root's state lock has all readers but one, then all, and an insert wants to read it
+    for (readers, answer) in [(MOST_READERS - 1, 0), (MOST_READERS, 9)] {
         let mut c = Both::<C>::fresh(8, 1, &mut r);
         assert_eq!(c.start(0, reference::INSERT, a), 0);
         assert_eq!((c.step(0), c.step(0)), (0, 0)); // the walk's end, and the edge
-        c.words[1] += readers << 36;
-        c.twin[1] = c.words[1];
+        c.words[fields_place(0)] += LOCKS[0].holding(2 * readers);
+        c.twin = c.words.clone();
         assert_eq!(c.step(0), answer);
     }
 }

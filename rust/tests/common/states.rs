@@ -1,4 +1,6 @@
 //! States of a small world, each packed into one number.
+use super::reference::layout::{key_place, words_for, ROOT_KEY};
+use super::reference::table::{key, pair, put, Pair};
 use super::reference_keys;
 use pannuqreik::raw;
 use std::hash::Hasher;
@@ -88,18 +90,20 @@ impl World {
     /// The state as one number. The two workers are alike, so the smaller stands first.
     pub fn pack(&self, s: &State) -> u128 {
         let mut b = Bits(0, 0);
-        for i in 0..self.slots {
-            let w = s.words[2 * i + 1];
+        for i in 0..self.slots as u64 {
+            let Pair { state, link, lock, busy, rest } = pair(&s.words, i);
             if i > 0 {
-                b.put(self.key_number(s.words[2 * i]), 2);
+                b.put(self.key_number(key(&s.words, i)), 2);
             }
-            b.put(w >> 62, 2);
-            b.put(w >> 52 & 1023, 2);
-            b.put(w >> 42 & 1023, 2);
-            for at in [36, 30, 24] {
-                b.put(LOCKS.iter().position(|x| *x == w >> at & 63).expect("a lock of two workers") as u64, 2);
+            b.put(state, 2);
+            for child in link {
+                b.put(child, 2);
             }
-            b.put(if i == 0 { w >> 19 & 31 } else { 0 }, 2);
+            for held in lock {
+                b.put(LOCKS.iter().position(|x| *x == held).expect("a lock of two workers") as u64, 2);
+            }
+            b.put(busy, 2);
+            b.put(rest, 0); // it has no bit
         }
         let mut workers = [0, 1].map(|i| {
             let mut w = Bits(0, 0);
@@ -113,15 +117,13 @@ impl World {
 
     pub fn unpack(&self, packed: u128) -> State {
         let mut b = Bits(packed, 0);
-        let mut words = vec![0; 2 * self.slots];
+        let mut words = vec![0; words_for(self.slots)];
         for i in 0..self.slots {
-            words[2 * i] = if i == 0 { u64::MAX } else { self.key_of(b.take(2)) };
-            let (state, left, right) = (b.take(2), b.take(2), b.take(2));
-            let mut w = state << 62 | left << 52 | right << 42;
-            for at in [36, 30, 24] {
-                w |= LOCKS[b.take(2) as usize] << at;
-            }
-            words[2 * i + 1] = w | b.take(2) << 19;
+            words[key_place(i)] = if i == 0 { ROOT_KEY } else { self.key_of(b.take(2)) };
+            let state = b.take(2);
+            let link = [(); 2].map(|_| b.take(2));
+            let lock = [(); 3].map(|_| LOCKS[b.take(2) as usize]);
+            put(&mut words, i as u64, Pair { state, link, lock, busy: b.take(2), rest: 0 });
         }
         let mut records = [[0; RECORD]; 2];
         let mut pasts = [Past::default(); 2];

@@ -1,6 +1,7 @@
 //! The specification once more, for tests only: written from its words and not from the library's code, plainly rather than
 //! fast. Every call takes any words, record and bytes. Answers are the numbers of `include/pannuqreik.h`.
 mod acts;
+pub mod layout;
 pub mod record;
 mod steps;
 pub mod table;

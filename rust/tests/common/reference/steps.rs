@@ -1,7 +1,8 @@
 //! Start, step and withdraw.
 use super::acts::{acts, holds, Act, Lock};
+use super::layout::{MOST_BUSY, MOST_READERS};
 use super::record::{read, record_fine, write, At, Record, WALK};
-use super::table::{damaged, pair, put, rule_1, slots, Pair};
+use super::table::{damaged, key, pair, put, put_data, rule_1, slots, zero, Pair};
 use super::{DATA, DELETED, DONE, FREE, FULL, GOING, INSERT, LOOKUP, NO, REMOVE, ROUTING, YES};
 use crate::common::reference_keys::legal;
 
@@ -50,7 +51,7 @@ fn walk(words: &[u64], r: &Record) -> Stepped {
     if damaged(words, r.this) {
         return None;
     }
-    let (key, p) = (words[2 * r.this as usize], pair(words, r.this));
+    let (key, p) = (key(words, r.this), pair(words, r.this));
     let words = words.to_vec();
     if key == r.key {
         return match (r.work, p.state) {
@@ -104,7 +105,7 @@ fn take_lock(words: &[u64], r: &Record, l: Lock, done: &[Act]) -> Result<Stepped
     if !holds(&p, l.expects) || conflict {
         return Ok(given_up(words, done).and_then(|after| restart(after, r)));
     }
-    if !l.write && x == 32 {
+    if !l.write && x == 2 * MOST_READERS {
         return Err(9);
     }
     p.lock[l.field] = if l.write { 1 } else { x + 2 };
@@ -120,12 +121,11 @@ fn new_slot(words: &[u64], r: &Record, done: &[Act]) -> Stepped {
     let Some(free) = (1..slots(words)).find(|i| pair(words, *i).state == FREE) else {
         return given_up(words, done).and_then(|after| ends(FULL, after));
     };
-    if words[2 * free as usize] != 0 || words[2 * free as usize + 1] != 0 {
+    if !zero(words, free) {
         return None;
     }
     let mut after = words.to_vec();
-    after[2 * free as usize] = r.key;
-    after[2 * free as usize + 1] = DATA << 62;
+    put_data(&mut after, free, r.key);
     let mut p = pair(words, r.prev);
     p.link[r.side] = free;
     put(&mut after, r.prev, p);
@@ -203,7 +203,7 @@ pub fn start(words: &mut [u64], record: &mut [u64], work: u64, key: u64) -> u64 
         return 3;
     }
     let mut root = pair(words, 0);
-    if root.busy >= 16 {
+    if root.busy >= MOST_BUSY {
         return 4;
     }
     root.busy += 1;

@@ -1,9 +1,12 @@
 //! The table: rule 1, what is sound, and the calls between steps.
+use super::layout::{fields_place, key_place, slot_places, slots_in, words_for};
+use super::layout::{BUSY, LINKS, LOCKS, REST, ROOT_REST, STATE};
+use super::layout::{FEWEST_SLOTS, MOST_BUSY, MOST_READERS, MOST_SLOTS, ROOT_KEY};
 use super::{DATA, DELETED, DONE, FREE, NO, ROUTING, YES};
 use crate::common::reference_keys::legal;
 
 /// A slot's second word, taken apart. Links and locks are by side: left, right; the state's lock comes first.
-#[derive(Clone, Copy)]
+#[derive(Clone, Copy, Default)]
 pub struct Pair {
     pub state: u64,
     pub link: [u64; 2],
@@ -13,38 +16,50 @@ pub struct Pair {
 }
 
 pub fn pair(words: &[u64], i: u64) -> Pair {
-    let w = words[2 * i as usize + 1];
+    let w = words[fields_place(i as usize)];
     let root = i == 0;
     Pair {
-        state: w >> 62,
-        link: [w >> 52 & 1023, w >> 42 & 1023],
-        lock: [w >> 36 & 63, w >> 30 & 63, w >> 24 & 63],
-        busy: if root { w >> 19 & 31 } else { 0 },
-        rest: if root { w & 0x7FFFF } else { w & 0xFFFFFF },
+        state: STATE.of(w),
+        link: LINKS.map(|f| f.of(w)),
+        lock: LOCKS.map(|f| f.of(w)),
+        busy: if root { BUSY.of(w) } else { 0 },
+        rest: w & if root { ROOT_REST } else { REST },
     }
 }
 
 pub fn put(words: &mut [u64], i: u64, p: Pair) {
-    words[2 * i as usize + 1] = p.state << 62
-        | p.link[0] << 52
-        | p.link[1] << 42
-        | p.lock[0] << 36
-        | p.lock[1] << 30
-        | p.lock[2] << 24
-        | p.busy << 19
-        | p.rest;
+    let links = LINKS.iter().zip(p.link).map(|(f, x)| f.holding(x));
+    let locks = LOCKS.iter().zip(p.lock).map(|(f, x)| f.holding(x));
+    let all = STATE.holding(p.state) | BUSY.holding(p.busy) | p.rest;
+    words[fields_place(i as usize)] = links.chain(locks).fold(all, |w, f| w | f);
+}
+
+/// A slot that is data, with no child and no lock.
+pub fn put_data(words: &mut [u64], i: u64, key: u64) {
+    words[key_place(i as usize)] = key;
+    put(words, i, Pair { state: DATA, ..Pair::default() });
+}
+
+pub fn key(words: &[u64], i: u64) -> u64 {
+    words[key_place(i as usize)]
+}
+
+/// Is the slot as a free one has to be?
+pub fn zero(words: &[u64], i: u64) -> bool {
+    words[slot_places(i as usize)].iter().all(|w| *w == 0)
 }
 
 pub fn slots(words: &[u64]) -> u64 {
-    words.len() as u64 / 2
+    slots_in(words.len()) as u64
 }
 
 pub fn size_fine(words: &[u64]) -> bool {
-    words.len() % 2 == 0 && (4..=2048).contains(&words.len())
+    let slots = slots_in(words.len());
+    words.len() == words_for(slots) && (FEWEST_SLOTS..=MOST_SLOTS).contains(&slots)
 }
 
 pub fn lock_fine(x: u64) -> bool {
-    x <= 32 && (x == 1 || x % 2 == 0)
+    x <= 2 * MOST_READERS && (x == 1 || x.is_multiple_of(2))
 }
 
 /// Links within the table, locks as they may be, no other bit.
@@ -58,7 +73,7 @@ pub fn rule_1(words: &[u64]) -> bool {
         return false;
     }
     let p = pair(words, 0);
-    words[0] == u64::MAX && p.state == DATA && p.link[1] == 0 && p.busy <= 16 && bits_fine(words, 0)
+    key(words, 0) == ROOT_KEY && p.state == DATA && p.link[1] == 0 && p.busy <= MOST_BUSY && bits_fine(words, 0)
 }
 
 pub fn damaged(words: &[u64], i: u64) -> bool {
@@ -70,8 +85,7 @@ pub fn fresh(words: &mut [u64]) -> u64 {
         return 1;
     }
     words.fill(0);
-    words[0] = u64::MAX;
-    words[1] = DATA << 62;
+    put_data(words, 0, ROOT_KEY);
     DONE
 }
 
@@ -80,19 +94,19 @@ pub fn reached(words: &[u64]) -> Option<Vec<bool>> {
     let n = slots(words);
     for i in 1..n {
         let free = pair(words, i).state == FREE;
-        if if free { words[2 * i as usize] != 0 || words[2 * i as usize + 1] != 0 } else { !bits_fine(words, i) } {
+        if if free { !zero(words, i) } else { !bits_fine(words, i) } {
             return None;
         }
     }
     let mut seen = vec![false; n as usize];
     seen[0] = true;
     // a slot, and the bounds that its ancestors set: both exclusive, the lower one plus one
-    let mut todo = vec![(pair(words, 0).link[0], 0u128, u64::MAX as u128)];
+    let mut todo = vec![(pair(words, 0).link[0], 0u128, ROOT_KEY as u128)];
     while let Some((i, low, high)) = todo.pop() {
         if i == 0 {
             continue;
         }
-        let (key, p) = (words[2 * i as usize], pair(words, i));
+        let (key, p) = (key(words, i), pair(words, i));
         let within = low <= key as u128 && (key as u128) < high;
         if seen[i as usize] || p.state == FREE || !within || !legal(key) {
             return None;
@@ -131,7 +145,7 @@ pub fn keys(words: &[u64], low: u64, high: u64) -> Result<Vec<u64>, u64> {
     let seen = reached(words).ok_or(6u64)?;
     let mut keys: Vec<u64> = (1..slots(words))
         .filter(|i| seen[*i as usize] && pair(words, *i).state == DATA)
-        .map(|i| words[2 * i as usize])
+        .map(|i| key(words, i))
         .filter(|k| low <= *k && *k <= high)
         .collect();
     keys.sort_unstable();
@@ -178,8 +192,7 @@ pub fn sweep(words: &mut [u64]) -> u64 {
     }
     for i in all {
         if pair(words, i).state == DELETED {
-            words[2 * i as usize] = 0;
-            words[2 * i as usize + 1] = 0;
+            words[slot_places(i as usize)].fill(0);
         }
     }
     DONE

@@ -1,6 +1,7 @@
 //! The commands, carried out: a table in a buffer, and the records.
 use super::line::{below, hexadecimal, up_to};
 use super::{pair, record};
+use crate::common::reference::layout::{key_place, slot_places, slots_in};
 use crate::common::reference::record::write;
 use crate::common::reference::table::put;
 use crate::common::reference::{self, FULL, GOING, NO, YES};
@@ -57,7 +58,7 @@ impl Desk {
             ["fresh"] => Some(reply(reference::fresh(self.table()))),
             ["poke", i, h] => self.poke(below(self.size, i)?, hexadecimal(h)?),
             ["slot", i] => self.slot(self.place(i)?),
-            ["key", i, h] => self.poke(2 * self.place(i)?, hexadecimal(h)?),
+            ["key", i, h] => self.poke(key_place(self.place(i)?), hexadecimal(h)?),
             ["put", i, fields @ ..] => self.put(self.place(i)?, fields),
             ["pair", i] => self.pair(self.place(i)?),
             ["check"] => Some(self.check()),
@@ -98,7 +99,7 @@ impl Desk {
 
     /// A slot of the table.
     fn place(&self, word: &str) -> Option<usize> {
-        below(self.size / 2, word)
+        below(slots_in(self.size), word)
     }
 
     fn lend(&mut self, size: usize) -> Option<String> {
@@ -112,8 +113,8 @@ impl Desk {
     }
 
     fn slot(&mut self, i: usize) -> Option<String> {
-        let table = self.table();
-        Some(format!("{:016X} {:016X}", table[2 * i], table[2 * i + 1]))
+        let words: Vec<_> = self.table()[slot_places(i)].iter().map(|w| format!("{w:016X}")).collect();
+        Some(words.join(" "))
     }
 
     fn pair(&mut self, i: usize) -> Option<String> {
@@ -155,7 +156,7 @@ impl Desk {
     /// Steps until the answer is not going, at most slots plus 10.
     fn run(&mut self, r: usize) -> String {
         let (table, record) = (&mut self.buffer[..self.size], &mut self.records[r]);
-        let most = table.len() / 2 + 10;
+        let most = slots_in(table.len()) + 10;
         let (mut said, mut calls) = (GOING, 0);
         while said == GOING && calls < most {
             said = reference::step(table, record);

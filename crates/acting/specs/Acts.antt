@@ -1,8 +1,9 @@
 -- What an action of the plan comes to by itself, whatever the phase. The walk's two actions are no part of it.
 -- Assumes nothing.
 use mathlib.Core.Path.{_≡_}
-use mathlib.Core.Bool.{Bool, true, false, cond}
+use mathlib.Core.Bool.{Bool, true, cond}
 use mathlib.Core.List.{List}
+use mathlib.Core.Logic.{_≢_}
 use Prim.Native.Nat.{ℕ}
 use lib.Dec.{eqb}
 use Rattle.table.specs.Pair.{setState, setLink, zeroPair}
@@ -11,7 +12,7 @@ use Rattle.protocol.specs.Stores.{lowestFit, taken}
 use Rattle.protocol.specs.declared.Action.{Action}
 use Rattle.protocol.specs.declared.Action.the-variants.{Visit, Look, Lock, Mark, Link, Take, End, Beyond}
 use Rattle.protocol.specs.declared.Answer.the-variants.{Yes, Full}
-use Rattle.locks.specs.Taking.{After, after, takeLock}
+use Rattle.locks.specs.Taking.{After, after, takeLock, cameTo}
 use Rattle.locks.specs.declared.Acted.{Acted}
 use Rattle.locks.specs.declared.Acted.the-variants.{Done, Finished, Stopped}
 
@@ -32,10 +33,10 @@ actOn ws key (Take prev side) = takes ws key prev side (lowestFit ws)
 actOn ws key End = after (Finished Yes) ws
 actOn ws key Beyond = after (Stopped 6) ws
 
--- what a quick action promises: where it is done, its pair was fine and it came to this; else nothing changed
-abbrev pub DoneBy : List ℕ → ℕ → Action → Bool → List ℕ → Type 0
-DoneBy ws key a r ws′ = (r ≡ true → (readsFine ws a ≡ true) × (actOn ws key a ≡ after Done ws′)) × (r ≡ false → ws′ ≡ ws)
+-- what a quick action promises: a number that is not 0 says that its pair was fine and what it came to; only 1 changes a word
+abbrev pub DoneBy : List ℕ → ℕ → Action → ℕ → List ℕ → Type 0
+DoneBy ws key a r ws′ = (r ≢ 0 → (readsFine ws a ≡ true) × (actOn ws key a ≡ after (cameTo r) ws′)) × (r ≢ 1 → ws′ ≡ ws)
 
 -- of a new frame's slot alone
-abbrev pub FrameBy : List ℕ → ℕ → ℕ → Bool → Bool → List ℕ → Type 0
-FrameBy ws key prev side r ws′ = (r ≡ true → takes ws key prev side (lowestFit ws) ≡ after Done ws′) × (r ≡ false → ws′ ≡ ws)
+abbrev pub FrameBy : List ℕ → ℕ → ℕ → Bool → ℕ → List ℕ → Type 0
+FrameBy ws key prev side r ws′ = (r ≢ 0 → takes ws key prev side (lowestFit ws) ≡ after (cameTo r) ws′) × (r ≢ 1 → ws′ ≡ ws)

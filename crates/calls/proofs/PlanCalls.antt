@@ -8,7 +8,7 @@ use lib.Dec.{eqb}
 use Rattle.moment.specs.Key.{legalOf}
 use Rattle.table.specs.Pair.{slotsOf, busyOf}
 use Rattle.table.specs.Rules.{tableFine}
-use Rattle.protocol.specs.Plan.{doneOf}
+use Rattle.protocol.specs.Plan.{doneOf, atRoot}
 use Rattle.protocol.specs.Locks.{allHeld, released}
 use Rattle.protocol.specs.Step.{readsFine, leave, idleWorker, stepOf}
 use Rattle.protocol.specs.declared.Kind.{Kind}
@@ -19,15 +19,16 @@ use Rattle.protocol.specs.declared.Phase.the-variants.{Walk, OnRouting, New, Tw
 use Rattle.protocol.specs.declared.Worker.{Worker}
 use Rattle.protocol.specs.declared.Action.{Action}
 use Rattle.protocol.specs.declared.Action.the-variants.{End}
-use Rattle.protocol.specs.declared.Answer.the-variants.{Yes}
+use Rattle.protocol.specs.declared.Answer.the-variants.{Yes, Full}
 use Rattle.plan.specs.Due.{dueOf}
 use Rattle.locks.specs.Taking.{After, after, givenUp}
 use Rattle.locks.specs.declared.Acted.{Acted}
-use Rattle.locks.specs.declared.Acted.the-variants.{Done}
+use Rattle.locks.specs.declared.Acted.the-variants.{Done, Denied, Finished}
 use Rattle.acting.specs.Acts.{actOn}
 use Rattle.acting.specs.Moves.{Move, leaves, settle, settleAct, planMove, busyMove, workMove, stepMove}
-use Rattle.acting.specs.declared.Moved.the-variants.{On, Over, Stays}
-use Rattle.worker.specs.Moving.{leftBy, moveOf}
+use Rattle.acting.specs.declared.Moved.{Moved}
+use Rattle.acting.specs.declared.Moved.the-variants.{On, To, Over, Stays}
+use Rattle.worker.specs.Moving.{leftBy, moveSays, moveOf}
 use Rattle.records.specs.Records.{workerOf, isRecord, putRecord, countOn}
 use Rattle.calls.specs.Numbers.{verdictNumber}
 use Rattle.calls.specs.Workers.{Comes, putMoved, dueWork, dueIn}
@@ -80,31 +81,58 @@ unfolding readsFine settleAct settle actOn
 end-moves ws w r e = plan-moves ws w r (rw e) ∙ rw e
 
 -- what becomes of the locks, by whether all are held
-given-up : (ws : List ℕ) (p : Phase) (b : Bool) → allHeld ws p (doneOf p) ≡ b
+given-up : (ws : List ℕ) (p : Phase) (m : Moved) (b : Bool) → allHeld ws p (doneOf p) ≡ b
     → (givenUp ws p (doneOf p) ≡ cond b (released ws p (doneOf p)) ws)
-    × (leaves ws p (Over Yes) ≡ cond b (after (Over Yes) (released ws p (doneOf p))) (after (Stays 6) ws))
+    × (leaves ws p m ≡ cond b (after m (released ws p (doneOf p))) (after (Stays 6) ws))
 unfolding givenUp leaves
-given-up ws p b h = (rw h, rw h)
+given-up ws p m b h = (rw h, rw h)
 
--- its locks are held: all is given up
+-- A WORK THAT GIVES UP ITS LOCKS, and then is over or begins again: they are held
+pub leave-call : (ws s : List ℕ) (m : Moved) {n : ℕ} {s′ ws′ : List ℕ} → isRecord s ≡ true → moveOf ws (workerOf s) ≡ leaves ws (workerOf s .phase) m
+    → allHeld ws (workerOf s .phase) (doneOf (workerOf s .phase)) ≡ true → n ≡ verdictNumber (moveSays m)
+    → s′ ≡ putMoved s (workerOf s .work) (workerOf s .key) m → ws′ ≡ leftBy m (givenUp ws (workerOf s .phase) (doneOf (workerOf s .phase)))
+    → Comes verdictNumber ws s (stepOf ws (workerOf s)) n s′ ws′
+leave-call ws s m i e h n p q =
+    let u = given-up ws (workerOf s .phase) m true h in
+    let g = e ∙ u .1 in
+    moved-call ws s m i (ap (λ (x : Move). x .said) (sym g)) n p
+    (q ∙ ap (leftBy m) (u .0) ∙ ap (λ (x : Move). leftBy m (x .words)) (sym g))
+
+-- or one is not: refused, and nothing changes
+pub leave-refused : (ws s : List ℕ) (m : Moved) {ws′ : List ℕ} → isRecord s ≡ true → moveOf ws (workerOf s) ≡ leaves ws (workerOf s .phase) m
+    → allHeld ws (workerOf s .phase) (doneOf (workerOf s .phase)) ≡ false → ws′ ≡ givenUp ws (workerOf s .phase) (doneOf (workerOf s .phase))
+    → Comes verdictNumber ws s (stepOf ws (workerOf s)) 6 s ws′
+unfolding putMoved leftBy
+leave-refused ws s m i e h q =
+    let u = given-up ws (workerOf s .phase) m false h in
+    let g = e ∙ u .1 in
+    moved-call ws s (Stays 6) i (ap (λ (x : Move). x .said) (sym g)) refl refl
+    (q ∙ u .0 ∙ ap (λ (x : Move). x .words) (sym g))
+
+-- a lock that is denied, and a frame that finds no slot, leave all words, and the work begins again or is over
+pub denied-moves : (ws s : List ℕ) (a : Action) (ws′ : List ℕ) → ws′ ≡ ws → Ruled ws (workerOf s .key) → a ≡ dueIn (slotsOf ws) (workerOf s)
+    → readsFine ws a ≡ true → actOn ws (workerOf s .key) a ≡ after Denied ws′
+    → moveOf ws′ (workerOf s) ≡ leaves ws′ (workerOf s .phase) (To atRoot)
+unfolding settleAct settle
+denied-moves ws s a ws′ k r e f d =
+    ap (λ (z : List ℕ). moveOf z (workerOf s)) k ∙ plan-moves ws (workerOf s) r (rw e at f) ∙ ap (settleAct (workerOf s .phase)) (rw e at d)
+
+pub full-moves : (ws s : List ℕ) (a : Action) (ws′ : List ℕ) → ws′ ≡ ws → Ruled ws (workerOf s .key) → a ≡ dueIn (slotsOf ws) (workerOf s)
+    → readsFine ws a ≡ true → actOn ws (workerOf s .key) a ≡ after (Finished Full) ws′
+    → moveOf ws′ (workerOf s) ≡ leaves ws′ (workerOf s .phase) (Over Full)
+unfolding settleAct settle
+full-moves ws s a ws′ k r e f d =
+    ap (λ (z : List ℕ). moveOf z (workerOf s)) k ∙ plan-moves ws (workerOf s) r (rw e at f) ∙ ap (settleAct (workerOf s .phase)) (rw e at d)
+
+-- the last step of a plan
 pub end-call : (ws s : List ℕ) {s′ ws′ : List ℕ} → isRecord s ≡ true → Ruled ws (workerOf s .key) → dueIn (slotsOf ws) (workerOf s) ≡ End
     → allHeld ws (workerOf s .phase) (doneOf (workerOf s .phase)) ≡ true
     → s′ ≡ putRecord s idleWorker → ws′ ≡ leave (givenUp ws (workerOf s .phase) (doneOf (workerOf s .phase)))
     → Comes verdictNumber ws s (stepOf ws (workerOf s)) 16 s′ ws′
 unfolding putMoved leftBy
-end-call ws s i r e h p q =
-    let u = given-up ws (workerOf s .phase) true h in
-    let g = end-moves ws (workerOf s) r e ∙ u .1 in
-    moved-call ws s (Over Yes) i (ap (λ (m : Move). m .said) (sym g)) refl p
-    (q ∙ ap leave (u .0) ∙ ap (λ (m : Move). leave (m .words)) (sym g))
+end-call ws s i r e h p q = leave-call ws s (Over Yes) i (end-moves ws (workerOf s) r e) h refl p q
 
--- one is not: refused, and nothing changes
 pub end-refused : (ws s : List ℕ) {ws′ : List ℕ} → isRecord s ≡ true → Ruled ws (workerOf s .key) → dueIn (slotsOf ws) (workerOf s) ≡ End
     → allHeld ws (workerOf s .phase) (doneOf (workerOf s .phase)) ≡ false → ws′ ≡ givenUp ws (workerOf s .phase) (doneOf (workerOf s .phase))
     → Comes verdictNumber ws s (stepOf ws (workerOf s)) 6 s ws′
-unfolding putMoved leftBy
-end-refused ws s i r e h q =
-    let u = given-up ws (workerOf s .phase) false h in
-    let g = end-moves ws (workerOf s) r e ∙ u .1 in
-    moved-call ws s (Stays 6) i (ap (λ (m : Move). m .said) (sym g)) refl refl
-    (q ∙ u .0 ∙ ap (λ (m : Move). m .words) (sym g))
+end-refused ws s i r e h q = leave-refused ws s (Over Yes) i (end-moves ws (workerOf s) r e) h q

@@ -8,6 +8,7 @@ use Prim.Native.Nat.{ℕ}
 use lib.Dec.{ltb, eqb}
 use lib.ListN.{getD}
 use Rattle.table.specs.Pair.{asData, keyOf, stateOf}
+use Rattle.table.specs.Rules.{tableFine}
 use Rattle.protocol.specs.Walk.{visit}
 use Rattle.protocol.specs.Step.{stepOf, leave, idleWorker}
 use Rattle.protocol.specs.declared.Kind.{Kind}
@@ -22,9 +23,9 @@ use Rattle.protocol.specs.declared.Outcome.the-variants.{Ends}
 use Rattle.locks.specs.Taking.{after}
 use Rattle.acting.specs.Moves.{Move, movedOf}
 use Rattle.acting.specs.declared.Moved.{Moved}
-use Rattle.acting.specs.declared.Moved.the-variants.{To, Over}
+use Rattle.acting.specs.declared.Moved.the-variants.{To, Over, Stays}
 use Rattle.worker.specs.Moving.{leftBy, moveSays, moveOf, ends, walkFine, walkTo}
-use Rattle.worker.proofs.WalkLaws.{fine-move, goes-to, lookup-ends}
+use Rattle.worker.proofs.WalkLaws.{fine-move, unfine-move, untabled-move, goes-to, lookup-ends}
 use Rattle.records.specs.Records.{kindNumber, flatOf, wordsOf, workerOf, putRecord, isWalk, walkOn}
 use Rattle.records.proofs.Canonical.{put-fits}
 use Rattle.records.proofs.Walks.{walker, walkerOf, Walking, walking, walk-record, walk-goes-on}
@@ -53,6 +54,24 @@ moves : (ws s : List ℕ) (w : Walking s) → fineAt ws s → moveOf ws (workerO
 moves ws s w f =
     ap (moveOf ws) (walk-record s w .1)
     ∙ fine-move ws (w .kind) (getD s 1 0) (getD s 3 0) (getD s 4 0) (getD s 6 0) (eqb (getD s 5 0) 0) (eqb (getD s 7 0) 0) f
+
+-- A WALK THAT A RULE REFUSES
+refused-call : (ws s : List ℕ) (w : Walking s) (n : ℕ) → moveOf ws (walkerOf (w .kind) s) ≡ after (Stays n) ws
+    → Comes verdictNumber ws s (stepOf ws (workerOf s)) n s ws
+unfolding putMoved leftBy
+refused-call ws s w n e =
+    let r = walk-record s w in
+    let g = ap (moveOf ws) (r .1) ∙ e in
+    moved-call ws s (Stays n) (r .0) (ap (λ (m : Move). m .said) (sym g)) refl refl (ap (λ (m : Move). m .words) (sym g))
+
+pub walk-one : (ws s : List ℕ) → isWalk s ≡ true → tableFine ws ≡ false → Comes verdictNumber ws s (stepOf ws (workerOf s)) 1 s ws
+walk-one ws s i t = let w = walking s i in
+    refused-call ws s w 1 (untabled-move ws (w .kind) (getD s 1 0) (getD s 3 0) (getD s 4 0) (getD s 6 0) (eqb (getD s 5 0) 0) (eqb (getD s 7 0) 0) t)
+
+pub walk-six : (ws s : List ℕ) → isWalk s ≡ true → tableFine ws ≡ true
+    → walkFine ws (getD s 1 0) (getD s 3 0) (getD s 4 0) (getD s 6 0) ≡ false → Comes verdictNumber ws s (stepOf ws (workerOf s)) 6 s ws
+walk-six ws s i t f = let w = walking s i in
+    refused-call ws s w 6 (unfine-move ws (w .kind) (getD s 1 0) (getD s 3 0) (getD s 4 0) (getD s 6 0) (eqb (getD s 5 0) 0) (eqb (getD s 7 0) 0) t f)
 
 -- A STEP OF A WALK THAT IS FINE
 pub walk-ends : (ws s : List ℕ) (m : Moved) {n : ℕ} {s′ ws′ : List ℕ} → isWalk s ≡ true → fineAt ws s

@@ -57,7 +57,7 @@ fn put_moved(lent: &mut [u64], work: Work, key: u64, m: Moved) -> u64
             FINE
         }
         Moved::Over(answer) => {
-            records::put(lent, worker::idle_worker());
+            records::put_idle(lent);
             numbers::of_answer(answer)
         }
         Moved::Stays(n) => n,
@@ -168,17 +168,23 @@ fn walk_end(words: &mut [u64], lent: &mut [u64]) -> u64
     put_moved(lent, Work::Busy(kind), key, m)
 }
 
-// One step of any words: of a walk that is fine by itself, else of the record that they are.
+// One step of any words: of a plan's phase, of a walk that is judged exactly, else of the record that they are.
 fn other_step(words: &mut [u64], lent: &mut [u64]) -> u64
     ensures { λ r. ⌜ Comes verdictNumber (now (words .entry)) (now (lent .entry)) (stepOf (now (words .entry)) (workerOf (now (lent .entry)))) r (now (lent .exit)) (now (words .exit)) ⌝ }
 {
-    if !records::is_walk(lent) {
+    if records::has_plan(lent) {
         return plans::plan_step(words, lent);
+    }
+    if !records::is_walk(lent) {
+        return record_step(words, lent);
+    }
+    if !table::table_fine(words) {
+        return 1;
     }
     let key = lent[1];
     let at = lent[3];
     if !worker::walk_fine(words, key, at, lent[4], lent[6]) {
-        return record_step(words, lent);
+        return 6;
     }
     let next = worker::walk_to(words, key, at);
     if next == ENDS {
@@ -196,7 +202,10 @@ pub fn step(words: &mut [u64], lent: &mut [u64]) -> u64
     ensures { λ r. ⌜ Comes verdictNumber (now (words .entry)) (now (lent .entry)) (stepOf (now (words .entry)) (workerOf (now (lent .entry)))) r (now (lent .exit)) (now (words .exit)) ⌝ }
 {
     if !records::is_walk(lent) {
-        return other_step(words, lent);
+        if records::has_plan(lent) {
+            return other_step(words, lent);
+        }
+        return record_step(words, lent);
     }
     let key = lent[1];
     let at = lent[3];

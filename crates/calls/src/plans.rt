@@ -14,13 +14,22 @@ ghost use Rattle.calls.specs.Numbers.{verdictNumber};
 ghost use Rattle.calls.specs.Workers.{Comes, dueIn};
 ghost use Rattle.protocol.specs.declared.Kind.the-variants.{Insert, Remove};
 ghost use Rattle.protocol.specs.declared.Action.the-variants.{End};
+ghost use Rattle.acting.specs.Moves.{leaves};
+ghost use Rattle.worker.specs.Moving.{moveOf};
 use crate::numbers::FINE;
 use crate::numbers::YES;
+use crate::put_moved;
 use crate::record_step;
 use crate::unread;
+use acting::Moved;
+use locks::DENIED;
+use locks::DONE;
+use locks::FULL;
 use plan::dues;
 use protocol::Action;
+use protocol::Answer;
 use records::Flat;
+use records::Lent;
 use records::Parts;
 
 fn insert_due(n: u64, f: Flat) -> Action
@@ -84,16 +93,43 @@ fn end_step(words: &mut [u64], lent: &mut [u64], f: Flat) -> u64
     YES
 }
 
-// A lock or a store. Where the quick tests do not let it through, the record's step judges it exactly.
-fn act_step(words: &mut [u64], lent: &mut [u64], key: u64, a: Action) -> u64
-    requires { ⌜ (isRecord (now lent) ≡ true) × (key ≡ workerOf (now lent) .key) × ((tableFine (now words) && not (eqb (busyOf (now words)) 0)) ≡ true) × (legalOf key ≡ true) × (a ≡ dueIn (slotsOf (now words)) (workerOf (now lent))) ⌝ }
+// A work that begins again, or is over because there is no slot: all locks are judged, then all are given up. These are rare, so
+// the record is read, and the usual steps need not keep its words for them.
+fn leave_step(words: &mut [u64], lent: &mut [u64], then: Moved) -> u64
+    requires { ⌜ moveOf (now words) (workerOf (now lent)) ≡ leaves (now words) (workerOf (now lent) .phase) then ⌝ }
     ensures { λ r. ⌜ Comes verdictNumber (now (words .entry)) (now (lent .entry)) (stepOf (now (words .entry)) (workerOf (now (lent .entry)))) r (now (lent .exit)) (now (words .exit)) ⌝ }
 {
-    if acting::quick::act_quick(words, key, a) {
-        records::count_on(lent);
-        return FINE;
+    let r = records::read(lent);
+    match r {
+        Lent::Nothing => unread(words),
+        Lent::Record(w) => {
+            let phase = w.phase;
+            let work = w.work;
+            let done = plan::done_of(phase);
+            if !locks::give_up(words, phase, done) {
+                return 6;
+            }
+            worker::leave_by(words, then);
+            put_moved(lent, work, w.key, then)
+        }
     }
-    record_step(words, lent)
+}
+
+// A lock or a store. What the quick tests do not let through is a step of the record.
+fn act_step(words: &mut [u64], lent: &mut [u64], f: Flat, a: Action) -> u64
+    requires { ⌜ (isRecord (now lent) ≡ true) × (f ≡ flatAt (now lent)) × ((tableFine (now words) && not (eqb (busyOf (now words)) 0)) ≡ true) × (legalOf (f .key) ≡ true) × (a ≡ dueIn (slotsOf (now words)) (workerAt f)) ⌝ }
+    ensures { λ r. ⌜ Comes verdictNumber (now (words .entry)) (now (lent .entry)) (stepOf (now (words .entry)) (workerOf (now (lent .entry)))) r (now (lent .exit)) (now (words .exit)) ⌝ }
+{
+    let q = acting::quick::act_quick(words, f.key, a);
+    match q {
+        DONE => {
+            records::count_on(lent);
+            FINE
+        }
+        DENIED => leave_step(words, lent, Moved::To(plan::at_root())),
+        FULL => leave_step(words, lent, Moved::Over(Answer::Full)),
+        _ => record_step(words, lent),
+    }
 }
 
 // One step of the record that has these words by name.
@@ -104,14 +140,13 @@ fn parts_step(words: &mut [u64], lent: &mut [u64], f: Flat) -> u64
     if !table::table_quick(words) {
         return record_step(words, lent);
     }
-    let key = f.key;
-    if !moment::legal(key) {
+    if !moment::legal(f.key) {
         return record_step(words, lent);
     }
     let a = due_of(table::slots(words), f);
     match a {
         Action::End => end_step(words, lent, f),
-        _ => act_step(words, lent, key, a),
+        _ => act_step(words, lent, f, a),
     }
 }
 

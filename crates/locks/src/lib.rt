@@ -173,8 +173,17 @@ pub fn take_lock(
     Acted::Done
 }
 
-// Takes the lock where the slot's pair is told fine at once and the lock is granted; else nothing changes, and it is not told
-// why.
+// The numbers of a quick action: what it came to, or nothing where the quick tests do not let it through.
+pub const UNTOLD: u64 = 0;
+
+pub const DONE: u64 = 1;
+
+pub const DENIED: u64 = 2;
+
+pub const FULL: u64 = 3;
+
+// Takes the lock, or finds it denied, where the quick tests let the slot's pair through. Else, and where 16 readers hold it,
+// nothing changes, and the exact way is asked.
 pub fn take_quick(
     words: &mut [u64],
     slot: u64,
@@ -182,20 +191,20 @@ pub fn take_quick(
     write: bool,
     state: u64,
     links: Links,
-) -> bool
+) -> u64
     ensures { λ r. ⌜ TakenBy (now (words .entry)) slot which write state links r (now (words .exit)) ⌝ }
 {
     if !table::pair_quick(words, slot) {
-        return false;
+        return UNTOLD;
     }
     if !is_granted(words, slot, which, write, state, links) {
-        return false;
+        return DENIED;
     }
     let held = table::lock(words, slot, which);
     if is_crowded(write, held) {
-        return false;
+        return UNTOLD;
     }
     let y = held + weight_of(write);
     table::set_lock(words, slot, which, y);
-    true
+    DONE
 }

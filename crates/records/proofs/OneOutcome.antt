@@ -7,10 +7,11 @@ use Prim.Native.Nat.{ℕ}
 use Rattle.protocol.specs.Plan.{atRoot}
 use Rattle.protocol.specs.Step.{idleWorker}
 use Rattle.protocol.specs.declared.Kind.{Kind}
+use Rattle.protocol.specs.declared.Work.{Work}
 use Rattle.protocol.specs.declared.Work.the-variants.{Busy}
 use Rattle.protocol.specs.declared.Phase.{Phase}
 use Rattle.protocol.specs.declared.Worker.{Worker}
-use Rattle.records.specs.Records.{partsOf, readOf, workerAt, putRecord, isIdle, isWalk, walkOn, countOn}
+use Rattle.records.specs.Records.{partsOf, readOf, workerAt, putRecord, isIdle, isWalk, walkOn, hasPlan, countOn}
 use Rattle.records.specs.declared.Flat.{Flat}
 use Rattle.records.specs.declared.Parts.{Parts}
 use Rattle.records.specs.declared.Lent.{Lent}
@@ -45,3 +46,9 @@ put-started-one s kind key a b p q = p ∙ sym q
 
 pub is-idle-one : (s : List ℕ) (a b : Bool) → a ≡ isIdle s → b ≡ isIdle s → a ≡ b
 is-idle-one s a b p q = p ∙ sym q
+
+pub has-plan-one : (s : List ℕ) (a b : Bool) → a ≡ hasPlan s → b ≡ hasPlan s → a ≡ b
+has-plan-one s a b p q = p ∙ sym q
+
+pub work-of-one : (f : Flat) (a b : Work) → a ≡ workerAt f .work → b ≡ workerAt f .work → a ≡ b
+work-of-one f a b p q = p ∙ sym q

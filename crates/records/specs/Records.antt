@@ -199,6 +199,12 @@ unfoldable pub walkOn : List ℕ → ℕ → Bool → List ℕ
 walkOn s next left =
     cond (eqb (length s) 11) (sets s 3 (next ∷ getD s 3 0 ∷ sideNumber left ∷ getD s 4 0 ∷ getD s 5 0 ∷ [])) s
 
+-- words of an insert or a remove that neither walks nor looks, if they are a record's
+unfoldable pub hasPlan : List ℕ → Bool
+hasPlan s =
+    eqb (length s) 11
+    && (leb 2 (getD s 0 0) && leb (getD s 0 0) 3 && not (eqb (getD s 2 0) 0) && not (eqb (getD s 2 0) 5))
+
 -- A phase of the plan that goes on has one more action done. `proofs/Counts.antt` shows that the words of a record that counts
 -- fewer than nine become those of the record with the next phase; those of any other stay.
 unfoldable pub countOn : List ℕ → List ℕ

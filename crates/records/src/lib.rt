@@ -5,7 +5,7 @@ ghost use lib.ListN.{length};
 ghost use Rattle.protocol.specs.Plan.{atRoot};
 ghost use Rattle.protocol.specs.Step.{idleWorker};
 ghost use Rattle.protocol.specs.declared.Work.the-variants.{Busy};
-ghost use Rattle.records.specs.Records.{sideNumber, kindNumber, workNumber, flatAt, notedOf, isRemover, phaseFlat, flatOf, partsOf, readOf, workerAt, listed, putRecord, isIdle, isWalk, walkOn, countOn};
+ghost use Rattle.records.specs.Records.{sideNumber, kindNumber, workNumber, flatAt, notedOf, isRemover, phaseFlat, flatOf, partsOf, readOf, workerAt, listed, putRecord, isIdle, isWalk, walkOn, hasPlan, countOn};
 use protocol::Kind;
 use protocol::Phase;
 use protocol::Work;
@@ -17,8 +17,10 @@ mod reading;
 // How many words a record has.
 pub const WORDS: usize = 11;
 
-// The number of the phase that walks.
+// The numbers of the phases that have no plan: the walk, and the leaf that looks at previous.
 const WALK: u64 = 0;
+
+const LEAF: u64 = 5;
 
 // The words by name. What a phase does not note is 0; a side is 0 for left, 1 for right.
 pub struct Flat {
@@ -216,7 +218,14 @@ pub fn read(s: &[u64]) -> Lent
     Lent::Nothing
 }
 
-// The phase that the words say, for a caller that needs no more of the record.
+// The work that the words say.
+pub fn work_of(f: Flat) -> Work
+    ensures { λ r. ⌜ r ≡ workerAt f .work ⌝ }
+{
+    reading::work_at(f.work)
+}
+
+// The phase that they say.
 pub fn phase_of(f: Flat) -> Phase
     ensures { λ r. ⌜ r ≡ workerAt f .phase ⌝ }
 {
@@ -325,7 +334,17 @@ pub fn walk_on(s: &mut [u64], next: u64, left: bool)
     }
 }
 
-// A phase of the plan that goes on
+// A phase of the plan
+
+// Are they of an insert or a remove that neither walks nor looks? (If they are a record's.)
+pub fn has_plan(s: &[u64]) -> bool
+    ensures { λ r. ⌜ r ≡ hasPlan (now (s .entry)) ⌝ }
+{
+    if s.len() != WORDS {
+        return false;
+    }
+    (2 <= s[0]) & (s[0] <= 3) & (s[2] != WALK) & (s[2] != LEAF)
+}
 
 // Counts one more action as done. Nothing where the words are not eleven, walk or look, or count nine or more.
 pub fn count_on(s: &mut [u64])
@@ -334,7 +353,7 @@ pub fn count_on(s: &mut [u64])
     if s.len() == WORDS {
         let phase = s[2];
         let done = s[10];
-        if (phase != 0) & (phase != 5) & (done < 9) {
+        if (phase != WALK) & (phase != LEAF) & (done < 9) {
             s[10] = done + 1;
         }
     }

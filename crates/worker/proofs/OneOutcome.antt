@@ -28,6 +28,9 @@ pub visit-on-one : (ws : List ℕ) (kind : Kind) (key at prev before : ℕ) (sid
 visit-on-one ws kind key at prev before side up a b x y p q = let e = p .0 ∙ sym (q .0) in
     (e, p .1 ∙ ap (λ (z : Moved). leftBy z ws) e ∙ sym (q .1))
 
+pub leave-by-one : (ws : List ℕ) (m : Moved) (x y : List ℕ) → x ≡ leftBy m ws → y ≡ leftBy m ws → x ≡ y
+leave-by-one ws m x y p q = p ∙ sym q
+
 pub seats-one : (f : List ℕ → List ℕ) (ws x y : List ℕ) → x ≡ f ws → y ≡ f ws → x ≡ y
 seats-one f ws x y p q = p ∙ sym q
 

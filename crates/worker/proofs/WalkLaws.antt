@@ -25,6 +25,7 @@ use Rattle.protocol.specs.declared.Outcome.the-variants.{Goes, Ends}
 use Rattle.protocol.proofs.Alone.Walking.{legal-below}
 use Rattle.locks.specs.Taking.{after}
 use Rattle.acting.specs.Moves.{movedOf, busyMove, workMove, stepMove}
+use Rattle.acting.specs.declared.Moved.the-variants.{Stays}
 use Rattle.acting.proofs.ActLaws.{any-work}
 use Rattle.worker.specs.Moving.{ends, walkFine, walkTo}
 
@@ -60,6 +61,20 @@ fine-move ws kind key at prev before side up e =
     let m = simp and-eq-true-iff at e in
     let r = sym (any-work ws kind key at prev before side up) ∙ m .0 .1 in
     rw (m .0 .0, r, m .1)
+
+-- one that rule 6 does not let step is refused 6
+pub unfine-move : (ws : List ℕ) (kind : Kind) (key at prev before : ℕ) (side up : Bool) → tableFine ws ≡ true → walkFine ws key at prev before ≡ false
+    → stepMove ws (Busy kind) key (Walk at prev before side up) ≡ after (Stays 6) ws
+unfolding walkFine stepMove workMove busyMove
+unfine-move ws kind key at prev before side up t e =
+    let f = rw t at e in
+    rw (t, sym (any-work ws kind key at prev before side up), f)
+
+-- and where rule 1 does not, 1
+pub untabled-move : (ws : List ℕ) (kind : Kind) (key at prev before : ℕ) (side up : Bool) → tableFine ws ≡ false
+    → stepMove ws (Busy kind) key (Walk at prev before side up) ≡ after (Stays 1) ws
+unfolding stepMove
+untabled-move ws kind key at prev before side up t = rw t
 
 -- a link that is taken where two tests are left, and ends where one is not: is it something else, both are left
 taken-where : (a b : Bool) (x c : ℕ) → c ≡ cond a ends (cond b ends x) → c ≢ ends → (a ≡ false) × (b ≡ false) × (x ≡ c)

@@ -36,7 +36,7 @@ pub fn idle_worker() -> Worker
 }
 
 // The seat is given up where the work is over.
-fn leave_by(words: &mut [u64], m: Moved)
+pub fn leave_by(words: &mut [u64], m: Moved)
     ensures { λ _. ⌜ now (words .exit) ≡ leftBy m (now (words .entry)) ⌝ }
 {
     match m {

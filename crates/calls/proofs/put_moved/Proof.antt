@@ -18,11 +18,8 @@ put-requires c κs = tt
 enum-known-m-2 : tie.Need-enum-known-m-2
 enum-known-m-2 c = c .match .keys3
 
-idle-worker-requires : tie.Need-idle-worker-requires
-idle-worker-requires c κs = tt
-
-put-requires-2 : tie.Need-put-requires-2
-put-requires-2 c κs = tt
+put-idle-requires : tie.Need-put-idle-requires
+put-idle-requires c κs = tt
 
 of-answer-requires : tie.Need-of-answer-requires
 of-answer-requires c κs = tt
@@ -54,13 +51,12 @@ same-length-3 c = search needs
 returns-3 : tie.Need-returns-3
 unfolding putMoved
 returns-3 c = let o = c .before .before .before in
-    let i = o .before in
-    let v = i .before .before .before .m2 .given .1 in
-    (rw v (c .of-answer .ensures), rw v (rw (i .idle-worker .ensures) at (o .put2 .ensures)))
+    let v = o .before .before .before .m2 .given .1 in
+    (rw v (c .of-answer .ensures), rw v (o .put-idle .ensures))
 
 returns-4 : tie.Need-returns-4
 unfolding putMoved
 returns-4 c = let v = c .before .m3 .given .1 in (rw v, rw v)
 
 pub put-moved-spec : {M : Type 1} → statement M
-put-moved-spec = tie.close (tie.spec enum-told count-on-requires enum-known-m put-requires enum-known-m-2 idle-worker-requires put-requires-2 of-answer-requires enum-known-m-3 same-length returns same-length-2 returns-2 same-length-3 returns-3 returns-4)
+put-moved-spec = tie.close (tie.spec enum-told count-on-requires enum-known-m put-requires enum-known-m-2 put-idle-requires of-answer-requires enum-known-m-3 same-length returns same-length-2 returns-2 same-length-3 returns-3 returns-4)

@@ -1,11 +1,11 @@
-use mathlib.Core.Path.{sym, ap, _∙_}
+use mathlib.Core.Path.{refl, sym, ap, _∙_}
 use native.Mathlib.Omega.{arith}
-use borrow.Author.Tests.{not-false}
+use borrow.Author.Tests.{not-true, not-false}
 use Rattle.table.proofs.PairLaws.{lock-lt}
 use Rattle.protocol.proofs.LockLaws.{weight-lt}
 use Rattle.locks.specs.Taking.{after, takeLock}
 use Rattle.locks.specs.declared.Acted.the-variants.{Done}
-use Rattle.locks.proofs.Quick.{nothing, done}
+use Rattle.locks.proofs.Quick.{nothing, kept, done}
 use borrow.Author.Needs.{needs}
 use Rattle.locks.proofs.take_quick.Statement.{statement}
 use Rattle.locks.proofs.take_quick.Tie as tie
@@ -26,7 +26,13 @@ same-length-2 : tie.Need-same-length-2
 same-length-2 c = search needs
 
 returns-2 : tie.Need-returns-2
-returns-2 c = nothing
+unfolding takeLock
+returns-2 c =
+    let g = c .before in
+    let p = g .before .before .before in
+    let f = p .pair-quick .ensures (not-false (p .pair-quick .result) (g .before .before .if1 .left)) in
+    let q = sym (g .is-granted .ensures) ∙ not-true (g .is-granted .result) (c .if2 .taken) in
+    kept (f, rw q)
 
 lock-requires : tie.Need-lock-requires
 lock-requires c κs = tt

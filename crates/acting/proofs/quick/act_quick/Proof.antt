@@ -104,7 +104,7 @@ returns-7 c =
     let p = i .before in
     let t = s .take-quick2 .ensures in
     let f = p .pair-quick3 .ensures (not-false (p .pair-quick3 .result) (i .if3 .left)) in
-    rw (p .before .before .before .a4 .given .1) (λ e. (f, t .0 e), t .1)
+    rw (p .before .before .before .a4 .given .1) (λ d. (f, t .0 d), t .1)
 
 returns-8 : tie.Need-returns-8
 returns-8 c = nothing

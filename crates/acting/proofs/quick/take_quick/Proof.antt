@@ -1,9 +1,9 @@
 use mathlib.Core.Path.{sym, ap, _∙_}
-use borrow.Author.Tests.{ne-eqb, not-false}
+use borrow.Author.Tests.{eq-eqb, ne-eqb, not-false}
 use Rattle.protocol.proofs.LockLaws.{lowest-free}
 use Rattle.locks.specs.Taking.{after}
 use Rattle.locks.specs.declared.Acted.the-variants.{Done}
-use Rattle.locks.proofs.Quick.{nothing, done}
+use Rattle.locks.proofs.Quick.{nothing, kept, done}
 use Rattle.acting.specs.Acts.{takes}
 use borrow.Author.Needs.{needs}
 use Rattle.acting.proofs.quick.take_quick.Statement.{statement}
@@ -16,7 +16,8 @@ same-length : tie.Need-same-length
 same-length c = search needs
 
 returns : tie.Need-returns
-returns c = nothing
+unfolding takes
+returns c = let f = c .before .lowest-free .ensures ∙ lowest-free _ in kept (rw (eq-eqb _ 0 (sym f ∙ c .if1 .taken)))
 
 zero-pair-requires : tie.Need-zero-pair-requires
 zero-pair-requires c κs = tt

@@ -1,7 +1,5 @@
-use mathlib.Core.Path.{sym, ap, _∙_}
+use mathlib.Core.Path.{sym, _∙_}
 use borrow.Author.Tests.{not-false}
-use Rattle.records.specs.declared.Flat.{Flat}
-use Rattle.records.specs.Records.{workerAt}
 use borrow.Author.Needs.{needs}
 use Rattle.calls.proofs.plans.parts_step.Statement.{statement}
 use Rattle.calls.proofs.plans.parts_step.Tie as tie
@@ -55,13 +53,12 @@ end-step-requires c κs =
     (p .0, p .1, q .before .table-quick .ensures (not-false (q .before .table-quick .result) (q .if1 .left)), sym (l .before .legal .ensures) ∙ not-false (l .before .legal .result) (l .if2 .left), sym (rw (d .before .slots .ensures) at (d .due-of .ensures)) ∙ m .enum-told .given .1)
 
 act-step-requires : tie.Need-act-step-requires
-unfolding workerAt
 act-step-requires c κs =
     let d = c .before .before .before in
     let l = d .before .before .before in
     let q = l .before .before in
     let p = q .before .before .before .before .before .pre in
-    (p .0, ap (λ (g : Flat). g .key) (p .1), q .before .table-quick .ensures (not-false (q .before .table-quick .result) (q .if1 .left)), sym (l .before .legal .ensures) ∙ not-false (l .before .legal .result) (l .if2 .left), rw (d .before .slots .ensures, p .1) at (d .due-of .ensures))
+    (p .0, p .1, q .before .table-quick .ensures (not-false (q .before .table-quick .result) (q .if1 .left)), sym (l .before .legal .ensures) ∙ not-false (l .before .legal .result) (l .if2 .left), rw (d .before .slots .ensures) at (d .due-of .ensures))
 
 same-length-5 : tie.Need-same-length-5
 same-length-5 c = search needs

@@ -7,7 +7,6 @@ use Prim.Native.Nat.{ℕ}
 use Rattle.protocol.specs.Plan.{atRoot}
 use Rattle.protocol.specs.Step.{idleWorker}
 use Rattle.protocol.specs.declared.Kind.{Kind}
-use Rattle.protocol.specs.declared.Work.{Work}
 use Rattle.protocol.specs.declared.Work.the-variants.{Busy}
 use Rattle.protocol.specs.declared.Phase.{Phase}
 use Rattle.protocol.specs.declared.Worker.{Worker}
@@ -49,6 +48,3 @@ is-idle-one s a b p q = p ∙ sym q
 
 pub has-plan-one : (s : List ℕ) (a b : Bool) → a ≡ hasPlan s → b ≡ hasPlan s → a ≡ b
 has-plan-one s a b p q = p ∙ sym q
-
-pub work-of-one : (f : Flat) (a b : Work) → a ≡ workerAt f .work → b ≡ workerAt f .work → a ≡ b
-work-of-one f a b p q = p ∙ sym q

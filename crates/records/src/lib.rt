@@ -218,14 +218,7 @@ pub fn read(s: &[u64]) -> Lent
     Lent::Nothing
 }
 
-// The work that the words say.
-pub fn work_of(f: Flat) -> Work
-    ensures { λ r. ⌜ r ≡ workerAt f .work ⌝ }
-{
-    reading::work_at(f.work)
-}
-
-// The phase that they say.
+// The phase that the words say, for a caller that needs no more of the record.
 pub fn phase_of(f: Flat) -> Phase
     ensures { λ r. ⌜ r ≡ workerAt f .phase ⌝ }
 {

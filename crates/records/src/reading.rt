@@ -7,7 +7,7 @@ use protocol::Phase;
 use protocol::Work;
 use protocol::Worker;
 
-pub fn work_at(n: u64) -> Work
+fn work_at(n: u64) -> Work
     ensures { λ r. ⌜ r ≡ workAt n ⌝ }
 {
     if n == 1 {

@@ -38,9 +38,6 @@ busy-one ws a b p q = p ∙ sym q
 pub set-key-one : (ws : List ℕ) (i k : ℕ) (a b : List ℕ) → a ≡ setKey ws i k → b ≡ setKey ws i k → a ≡ b
 set-key-one ws i k a b p q = p ∙ sym q
 
-pub set-fields-one : (ws : List ℕ) (i x : ℕ) (a b : List ℕ) → a ≡ setWord ws i 1 x → b ≡ setWord ws i 1 x → a ≡ b
-set-fields-one ws i x a b p q = p ∙ sym q
-
 pub set-state-one : (ws : List ℕ) (i s : ℕ) (a b : List ℕ) → a ≡ setState ws i s → b ≡ setState ws i s → a ≡ b
 set-state-one ws i s a b p q = p ∙ sym q
 

@@ -134,13 +134,6 @@ pub fn set_key(t: &mut [u64], i: u64, k: u64)
     set_word(t, i, 0, k);
 }
 
-// Stores the word of fields whole.
-pub fn set_fields(t: &mut [u64], i: u64, x: u64)
-    ensures { λ _. ⌜ now (t .exit) ≡ setWord (now (t .entry)) i 1 x ⌝ }
-{
-    set_word(t, i, 1, x);
-}
-
 pub fn set_state(t: &mut [u64], i: u64, s: u64)
     ensures { λ _. ⌜ now (t .exit) ≡ setState (now (t .entry)) i s ⌝ }
 {

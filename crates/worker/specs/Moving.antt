@@ -1,5 +1,5 @@
--- What a step that is told, not made, comes to: what it says, the record after it, and the words where the work is over.
--- `proofs/MovingLaws.antt` has that this is the protocol's step.
+-- A step that is reported and not put into a record: what it says, the record after it, and the words where the work is over.
+-- `proofs/MovingLaws.antt` proves that this is the protocol's step.
 -- Assumes nothing.
 use mathlib.Core.Bool.{Bool, true, cond, _&&_}
 use mathlib.Core.List.{List}

@@ -1,5 +1,7 @@
 // What a step does in any phase: the rules, and the next action. The phase after it is reported, not built: a step of the plan that
 // goes on only counts one more action.
+#![tactic(auto)]
+
 ghost use Rattle.std.specs.Prelude.{◌≡◌};
 ghost use Rattle.table.specs.Pair.{set_link};
 ghost use Rattle.protocol.specs.Stores.{lowest_fit, taken};
@@ -17,7 +19,7 @@ mod walking;
 
 // What a step comes to: the phase has one more action done, or is another; the work is over, with an answer; or the step is
 // refused, and all stays.
-#[derive(Drop)]
+#[derive(Clone, Copy)]
 pub enum Moved {
     On,
     To(Phase),

@@ -1,5 +1,7 @@
 // The calls on a worker's record that is lent as eleven words, and the numbers of the answers: start, step and withdraw
 // take any words, and say by one number what they came to.
+#![tactic(auto)]
+
 ghost use Rattle.std.specs.Prelude.{◌≡◌, true, get_or};
 ghost use Rattle.table.specs.Rules.{reply_says};
 ghost use Rattle.protocol.specs.Step.{step_of};

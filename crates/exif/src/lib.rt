@@ -1,5 +1,7 @@
 // Capture texts: read from a metadata block, written into a lent buffer; and the sub-second text beside them. Every
 // public function answers for any block, place, length and key.
+#![tactic(auto)]
+
 ghost use Rattle.std.specs.Prelude.{◌≡◌, ◌+◌, ◌/◌, ◌≤◌, ◌<◌, length, get_or, set};
 ghost use Rattle.exif.specs.Forms.{digit, two_digit_hour};
 ghost use Rattle.exif.specs.Parts.{beyond_of};
@@ -10,28 +12,28 @@ ghost use Rattle.exif.specs.Writing.{writes, leaves, written_says};
 use moment::Moment;
 
 // What a capture text says: its moment, or a refusal with its number.
-#[derive(Drop)]
+#[derive(Clone, Copy)]
 pub enum TextRead {
     Moment(Moment),
     Refused(u64),
 }
 
 // What the writer answers.
-#[derive(Drop)]
+#[derive(Clone, Copy)]
 pub enum Written {
     Done,
     Refused(u64),
 }
 
 // What a sub-second text says: hundredths of a second, or a refusal with its number.
-#[derive(Drop)]
+#[derive(Clone, Copy)]
 pub enum SubSecond {
     Hundredths(u64),
     Refused(u64),
 }
 
 // How the hour of a capture text is written.
-#[derive(Drop)]
+#[derive(Clone, Copy)]
 enum HourForm {
     TwoDigits,
     BlankAndDigit,
@@ -39,7 +41,7 @@ enum HourForm {
 }
 
 // Which form a text has, before its date and time are judged.
-#[derive(Drop)]
+#[derive(Clone, Copy)]
 enum Form {
     Unknown,
     Told(HourForm),

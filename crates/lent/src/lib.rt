@@ -1,5 +1,7 @@
 // The calls of `worker` over a record that the caller lends: it is moved on in place. Each is one call by value, and one
 // store of the record that it gives back; each promises the protocol's definition, refusals included.
+#![tactic(auto)]
+
 ghost use Rattle.table.specs.Rules.{reply_says};
 ghost use Rattle.protocol.specs.Says.{answer_says};
 ghost use Rattle.protocol.specs.Step.{step_of};

@@ -1,5 +1,7 @@
 // The lines of the sorting program as bytes: what an input line says, fed in pieces of any size, where a line ends, and
 // bytes put behind others. Every public function answers for any bytes and numbers.
+#![tactic(auto)]
+
 ghost use Rattle.std.specs.Prelude.{◌≡◌, ◌++◌, ◌+◌, ◌≤◌, length, take, drop};
 ghost use Rattle.std.proofs.lemmas.List.Edits.{sets};
 ghost use Rattle.moment.specs.Key.{packs};
@@ -16,21 +18,21 @@ use moment::{Fields, Moment, Packed};
 const KEPT: usize = 32;
 
 // A line that is being fed: how many bytes are kept, and whether a NUL was among those that are not.
-#[derive(Drop)]
+#[derive(Clone, Copy)]
 pub struct Line {
     pub len: usize,
     pub nul: bool,
 }
 
 // What a line says: the key of its frame, or a refusal with its number.
-#[derive(Drop)]
+#[derive(Clone, Copy)]
 pub enum LineRead {
     Key(u64),
     Refused(u64),
 }
 
 // A number and one blank at a place of a line: its value, and the place behind the blank.
-#[derive(Drop)]
+#[derive(Clone, Copy)]
 enum Number {
     Value(u64, usize),
     Bad,

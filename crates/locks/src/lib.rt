@@ -1,5 +1,7 @@
 // Locks: taking one, and giving up all that are held. Each function takes any words and any numbers, and promises the protocol's
 // definition, its part before a phase is settled (specs/Taking.antt), or that of one hold (specs/Holding.antt).
+#![tactic(auto)]
+
 ghost use Rattle.std.specs.Prelude.{◌≡◌, ◌-◌};
 ghost use Rattle.protocol.specs.Locks.{state_fits, links_fit, clear, holds, weight, crowded, granted, all_held, released};
 ghost use Rattle.locks.specs.Holding.{held_by, freed_by};
@@ -11,7 +13,7 @@ use table::{DELETED, Which};
 
 // What an action comes to by itself: it is done, its lock is denied, the work ends with an answer, or the step is refused.
 // What becomes of the phase is settled after it, so no phase is handed down.
-#[derive(Drop)]
+#[derive(Clone, Copy)]
 pub enum Acted {
     Done,
     Denied,

@@ -1,12 +1,12 @@
 -- Every hundredth of a second from 1990 to 2999 is the instant of some legal fields, whatever the camera and the file
 -- number: what moving a frame in time will lean on.
 -- Assumes nothing.
-use mathlib.Core.Path.{◌≡◌, refl, sym, ap, ◌∙◌}
+use mathlib.Core.Path.{◌≡◌, refl}
 use mathlib.Core.Bool.{true}
-use Prim.Native.Nat.{ℕ, ◌+◌, ◌*◌, ◌/◌, ◌%◌, ◌≤◌, ◌<◌}
+use Prim.Native.Nat.{ℕ, ◌*◌, ◌/◌, ◌%◌, ◌≤◌, ◌<◌}
 use native.Mathlib.Omega.{arith}
 use Rattle.moment.specs.Key.{in_range}
-use Rattle.moment.specs.Instant.{days_of_years, day_number, instant_of_fields}
+use Rattle.moment.specs.Instant.{days_of_years, instant_of_fields}
 use Rattle.moment.specs.declared.Fields.{Fields}
 use Rattle.moment.proofs.Ranges.{ranged}
 use Rattle.moment.proofs.Days.{DateOf, date_of}

@@ -10,13 +10,12 @@ use native.Mathlib.Omega.{arith}
 use native.Mathlib.Nat.{mul-le-mul_right}
 use native.Mathlib.Decide.{dec_lt}
 use lib.Arith.{digits_div, digits_mod}
-use Rattle.moment.specs.Calendar.{days_in}
-use Rattle.moment.specs.Key.{in_range, key_of_fields, fields_of, legal_of, moment_of}
+use Rattle.moment.specs.Key.{key_of_fields, fields_of, legal_of, moment_of}
 use Rattle.moment.specs.Instant.{day_number, instant_of_fields, instant_of}
 use Rattle.moment.specs.declared.Fields.{Fields}
 use Rattle.moment.proofs.Ranges.{Ranges, ranges, month_of}
 use Rattle.moment.proofs.Packing.{legal_is, pack_unpack}
-use Rattle.moment.proofs.Days.{date_bits, day_order, day_injective}
+use Rattle.moment.proofs.Days.{date_bits, day_order}
 
 -- g goes with j: where g rises, j rises, and where g is the same, j is
 pub record Goes (g g' j j' : ℕ) : Type 0 where

@@ -9,9 +9,8 @@ use native.Mathlib.Nat.{mod-eq_of_lt}
 use native.Mathlib.Omega.{arith}
 use lib.ListN.{get_or}
 use borrow.Author.Tests.{lt-ltb}
-use Rattle.layout.specs.Layout.{enc, dec}
 use Rattle.layout.proofs.LayoutLaws.{dec_enc, enc_dec, enc_lt}
-use Rattle.moment.specs.Said.{Said, gives, refuses}
+use Rattle.moment.specs.Said.{gives, refuses}
 use Rattle.moment.specs.Key.{key_layout, listed, in_range, key_of_fields, fields_of, legal_of, packs, packed_says}
 use Rattle.moment.specs.declared.Fields.{Fields}
 use Rattle.moment.specs.declared.Packed.{Packed}

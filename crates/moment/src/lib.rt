@@ -1,12 +1,14 @@
 // What a key is: the nine fields of a frame, legal by the Gregorian calendar, packed into one number from the top bit
 // down. Nothing here refuses by itself but `pack`, and every function answers for any numbers.
+#![tactic(auto)]
+
 ghost use Rattle.std.specs.Prelude.{◌≡◌, ◌&&◌, ◌+◌, ◌<◌, leb};
 ghost use Rattle.moment.specs.Calendar.{leap_of, days_in, date_exists, time_exists, moment_exists};
 ghost use Rattle.moment.specs.Key.{key_layout, listed, moment_of, in_range, key_of_fields, packs, packed_says, fields_of, legal_of, first_key, years_of_keys};
 ghost use Rattle.layout.specs.Layout.{Fit};
 
 // The fields of a key, in the order in which they are packed.
-#[derive(Drop)]
+#[derive(Clone, Copy)]
 pub struct Fields {
     pub year: u64,
     pub month: u64,
@@ -20,7 +22,7 @@ pub struct Fields {
 }
 
 // A moment: the date and time of day that a capture text says.
-#[derive(Drop)]
+#[derive(Clone, Copy)]
 pub struct Moment {
     pub year: u64,
     pub month: u64,
@@ -31,7 +33,7 @@ pub struct Moment {
 }
 
 // What `pack` answers: the key, or a refusal with its number.
-#[derive(Drop)]
+#[derive(Clone, Copy)]
 pub enum Packed {
     Key(u64),
     Refused(u64),

@@ -1,5 +1,7 @@
 // The plan in code: the action at each place of each case, the count of actions done, and the rules of a record. Each
 // promises the protocol's definition, or one of specs/ that is made of these.
+#![tactic(auto)]
+
 ghost use Rattle.std.specs.Prelude.{◌≡◌, true, ◌&&◌, ◌<◌};
 ghost use Rattle.moment.specs.Key.{legal_of};
 ghost use Rattle.table.specs.Pair.{slots_of};
@@ -181,7 +183,7 @@ pub fn locks_of(phase: Phase) -> u64
 }
 
 // What a lock holds: one lock of a slot, written or read.
-#[derive(Drop)]
+#[derive(Clone, Copy)]
 pub struct Hold {
     pub slot: u64,
     pub which: Which,

@@ -1,5 +1,7 @@
 // The lines that the sorting program prints, put at the front of a lent array; the answer is how many bytes the line has.
 // Every public function answers for any numbers.
+#![tactic(auto)]
+
 ghost use Rattle.std.specs.Prelude.{◌≡◌, true, ◌++◌, ◌∷◌, [], ◌+◌, ◌≤◌, length};
 ghost use Rattle.layout.specs.Filling.{Put};
 ghost use Rattle.moment.specs.Key.{legal_of};
@@ -7,7 +9,7 @@ ghost use Rattle.exif.specs.Forms.{blank};
 ghost use Rattle.printed.specs.Printing.{digits_of, decimal, hex_digit, hex_of, text_of, word_line, refused_line, already_line, frame_line_says, puts_frame, frame_holds};
 
 // What `frame_line` answers: how many bytes the line has, or a refusal with its number.
-#[derive(Drop)]
+#[derive(Clone, Copy)]
 pub enum FrameLine {
     Bytes(usize),
     Refused(u64),

@@ -1,16 +1,17 @@
 // The record of a worker, the plan's actions and the answers, as types. No function has a body here: what start, step
 // and withdraw do stands in specs/ as definitions, and the laws of it in proofs/.
+#![tactic(auto)]
 use table::{Reply, Which};
 
 // What a worker may be busy with.
-#[derive(Drop)]
+#[derive(Clone, Copy)]
 pub enum Kind {
     Lookup,
     Insert,
     Remove,
 }
 
-#[derive(Drop)]
+#[derive(Clone, Copy)]
 pub enum Work {
     Idle,
     Busy(Kind),
@@ -19,7 +20,7 @@ pub enum Work {
 // The case that a work has come to, with the slots and sides it noted and how many of the case's actions are done: so
 // it carries the locks held. A slot is a plain number, 0 is the root, or none above it; a side is true for left.
 // `side` is that of the link from `prev` to the slot itself, `up` that from `before` to `prev`, `toward` that to `child`.
-#[derive(Drop)]
+#[derive(Clone, Copy)]
 pub enum Phase {
     Walk {
         at: u64,
@@ -74,7 +75,7 @@ pub enum Phase {
 }
 
 // The record that the caller keeps.
-#[derive(Drop)]
+#[derive(Clone, Copy)]
 pub struct Worker {
     pub work: Work,
     pub key: u64,
@@ -82,7 +83,7 @@ pub struct Worker {
 }
 
 // What a lock expects of its slot's links: nothing, this child on a side (0: none), no child, or two children.
-#[derive(Drop)]
+#[derive(Clone, Copy)]
 pub enum Links {
     Any,
     Is(bool, u64),
@@ -94,7 +95,7 @@ pub enum Links {
 // Visit: at, prev, before, side, up. Look: this, prev, side, before, up.
 // Lock: slot, which lock, written (or read), the state expected (0: not deleted), the links expected.
 // Mark: slot, the state stored. Link: slot, side, the child stored. Take: prev, side. Beyond: past a plan's end.
-#[derive(Drop)]
+#[derive(Clone, Copy)]
 pub enum Action {
     Visit(u64, u64, u64, bool, bool),
     Look(u64, u64, bool, u64, bool),
@@ -107,7 +108,7 @@ pub enum Action {
 }
 
 // What an action comes to: the work goes on in a phase, ends with an answer, or the step is refused.
-#[derive(Drop)]
+#[derive(Clone, Copy)]
 pub enum Outcome {
     Goes(Phase),
     Ends(Answer),
@@ -115,7 +116,7 @@ pub enum Outcome {
 }
 
 // What a step answers.
-#[derive(Drop)]
+#[derive(Clone, Copy)]
 pub enum Answer {
     Going,
     Yes,
@@ -124,14 +125,14 @@ pub enum Answer {
     Refused(u64),
 }
 
-#[derive(Drop)]
+#[derive(Clone, Copy)]
 pub struct Stepped {
     pub answer: Answer,
     pub worker: Worker,
 }
 
 // What start and withdraw give back.
-#[derive(Drop)]
+#[derive(Clone, Copy)]
 pub struct Replied {
     pub reply: Reply,
     pub worker: Worker,

@@ -1,4 +1,6 @@
 // A worker's record as eleven words, and back. Every record has its words, and no two records have the same.
+#![tactic(auto)]
+
 ghost use Rattle.std.specs.Prelude.{◌≡◌, true, length};
 ghost use Rattle.protocol.specs.Plan.{at_root};
 ghost use Rattle.protocol.specs.Step.{idle_worker};
@@ -19,7 +21,7 @@ const WALK: u64 = 0;
 const LEAF: u64 = 5;
 
 // The words by name. What a phase does not note is 0; a side is 0 for left, 1 for right.
-#[derive(Drop)]
+#[derive(Clone, Copy)]
 pub struct Flat {
     pub work: u64,
     pub key: u64,
@@ -35,14 +37,14 @@ pub struct Flat {
 }
 
 // What lent words are: a record's words by name, or none.
-#[derive(Drop)]
+#[derive(Clone, Copy)]
 pub enum Parts {
     Words(Flat),
     Nothing,
 }
 
 // The same, as the record that they are.
-#[derive(Drop)]
+#[derive(Clone, Copy)]
 pub enum Lent {
     Record(Worker),
     Nothing,

@@ -5,7 +5,7 @@ use mathlib.Core.Bool.{Bool}
 use mathlib.Core.List.{List}
 use Prim.Native.Nat.{ℕ}
 use Rattle.table.specs.Free.{lowest_free}
-use Rattle.table.specs.Pair.{slots_of, word_of, set_word, key_of, state_of, link_of, lock_of, busy_of, set_key, set_state, set_link, set_lock, set_busy, zero_pair, zeroed}
+use Rattle.table.specs.Pair.{slots_of, word_of, key_of, state_of, link_of, lock_of, busy_of, set_key, set_state, set_link, set_lock, set_busy, zero_pair, zeroed}
 use Rattle.table.specs.Rules.{bits_fine, pair_fine, table_fine, reply_says, fresh_says, fresh_words}
 use Rattle.table.specs.declared.Which.{Which}
 use Rattle.table.specs.declared.Reply.{Reply}

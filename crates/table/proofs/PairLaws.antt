@@ -9,7 +9,7 @@ use native.Mathlib.Omega.{arith}
 use native.Mathlib.Decide.{dec_lt, ℕ_discrete}
 use native.Mathlib.Numerals.{add-one}
 use lib.Dec.{leb}
-use lib.ListN.{length, get_or, set, take, replicate, replicate-append-replicate, length-set, get_or-eq_default}
+use lib.ListN.{length, set, take, replicate, replicate-append-replicate, length-set, get_or-eq_default}
 use lib.Seq.{take-suc-set, get_or-set_same, get_or-set_other, set_out, set-set, set-get_or}
 use borrow.Author.Tests.{lt-leb, le-leb, leb-true, leb-false}
 use Rattle.layout.specs.Word.{get, put}

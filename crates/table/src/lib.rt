@@ -1,5 +1,7 @@
 // The lent words: the fields of a pair by their place in one layout, the rules of a pair and of the root, and `fresh`.
 // Every function takes any words, any slot and any value: what lies beyond the table reads as 0 and is not stored.
+#![tactic(auto)]
+
 ghost use Rattle.std.specs.Prelude.{◌≡◌, true, not, ◌&&◌, ◌+◌, ◌<◌, ◌≤◌, leb, eqb, length, replicate};
 ghost use Rattle.layout.specs.Word.{get};
 ghost use Rattle.table.specs.Pair.{slots_of, word_of, set_word, set_bits, key_of, set_key, state_of, link_of, lock_of, busy_of, set_state, set_link, set_lock, set_busy, zero_pair, zeroed};
@@ -10,14 +12,14 @@ mod rules;
 pub mod widths;
 
 // Which of a pair's locks: of its state, or of the edge on a side (true: left).
-#[derive(Drop)]
+#[derive(Clone, Copy)]
 pub enum Which {
     State,
     Edge(bool),
 }
 
 // What start, withdraw, fresh and sweep answer.
-#[derive(Drop)]
+#[derive(Clone, Copy)]
 pub enum Reply {
     Done,
     Refusal(u64),

@@ -39,7 +39,7 @@ under_some (kid d u e n) z = n
 pub via : {A : Tab} {k y x : ℕ} (z : ℕ) → k ≢ A.key x → next A k x ≡ z → z ≢ 0 → On A k y z → On A k y x
 via {A} {k} {y} {x} z h e n t = down h (rw e n) (rw e t)
 
-pub on_trans : {A : Tab} {k x y z : ℕ} → On A k y x → On A k z y → On A k z x
+pub on_trans : {A : Tab} {k y z x : ℕ} → On A k y x → On A k z y → On A k z x
 on_trans here t = t
 on_trans (down a b s) t = down a b (on_trans s t)
 
@@ -47,7 +47,7 @@ pub snoc : {A : Tab} {k x : ℕ} (p u : ℕ) → On A k p x → k ≢ A.key p �
 snoc p u s h e n = on_trans s (via u h e n here)
 
 -- of two slots on one walk, one comes first
-pub linear : {A : Tab} {k x y z : ℕ} → On A k y x → On A k z x → On A k z y ⊎ On A k y z
+pub linear : {A : Tab} {k y z x : ℕ} → On A k y x → On A k z x → On A k z y ⊎ On A k y z
 linear here t = inl t
 linear (down a b s) here = inr (down a b s)
 linear (down a b s) (down a' b' t) = linear s t
@@ -66,12 +66,12 @@ step_on z e here = inl refl
 step_on {A} {k} {x} {y} z e (down h n t) = inr (rw e at t)
 
 -- the slot before the last one
-pub before : {A : Tab} {k x y : ℕ} → On A k y x → (x ≡ y) ⊎ ((q : ℕ) × On A k q x × (k ≢ A.key q) × (next A k q ≡ y))
+pub before : {A : Tab} {k y x : ℕ} → On A k y x → (x ≡ y) ⊎ ((q : ℕ) × On A k q x × (k ≢ A.key q) × (next A k q ≡ y))
 before here = inl refl
 before {A} {k} {y = y} (down {x = x} h n t) = inr (⊎_elim (λ e. (x, here, h, e)) (λ u. (u.0, down h n u.1, u.2, u.3)) (before t))
 
 -- a walk goes where something hangs
-pub on_under : {A : Tab} {k x y : ℕ} → On A k y x → Under A x y
+pub on_under : {A : Tab} {k y x : ℕ} → On A k y x → Under A x y
 on_under here = top refl
 on_under {A} {k} (down {x = x} h n t) = beside_under x (dir A k x) (n, on_under t)
 

@@ -118,7 +118,7 @@ taken d (none e) z = absurd (z e)
 taken {A} {lo = lo} true (node {n = n} {x = x} z p a b l r) z' = (n, lo, A.key x, l, refl)
 taken {A} {hi = hi} false (node {n = n} {x = x} z p a b l r) z' = (n, A.key x, hi, r, refl)
 
-pub short : {A : Tab} {P : ℕ → Type 0} {n x lo hi k y : ℕ} → Tree A P n x lo hi → x ≢ 0 → (w : On A k y x) → slots_on w ≤ n
+pub short : {A : Tab} {P : ℕ → Type 0} {k y x n lo hi : ℕ} → Tree A P n x lo hi → x ≢ 0 → (w : On A k y x) → slots_on w ≤ n
 short t z here = let s = taken true t z in let e = s.4 in omega arith
 short {A} {k = k} t z (down {x = x} h m w) =
     let s = taken (dir A k x) t z in

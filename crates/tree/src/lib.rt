@@ -1,4 +1,6 @@
 // Between steps: check, list, first frame and sweep.
+#![tactic(auto)]
+
 ghost use Rattle.std.specs.Prelude.{◌≡◌, length};
 ghost use Rattle.table.specs.Rules.{reply_says};
 ghost use Rattle.tree.specs.Answers.{checked_says, check_says, listed_says, list_says, list_holds, list_front, list_number, frame_says, first_says, sweep_says, sweep_words};
@@ -8,7 +10,7 @@ mod in_order;
 mod judge;
 
 // What check answers.
-#[derive(Drop)]
+#[derive(Clone, Copy)]
 pub enum Checked {
     Sound,
     Unsound,
@@ -16,14 +18,14 @@ pub enum Checked {
 }
 
 // What `list_into` answers: how many keys it put, or a refusal.
-#[derive(Drop)]
+#[derive(Clone, Copy)]
 pub enum Listed {
     Count(usize),
     Refused(u64),
 }
 
 // What first frame answers.
-#[derive(Drop)]
+#[derive(Clone, Copy)]
 pub enum FirstFrame {
     Key(u64),
     Refused(u64),

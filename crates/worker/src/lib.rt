@@ -1,5 +1,7 @@
 // Workers: one insert, remove or lookup, one step at a time. `start`, `step` and `withdraw` take any words and any record
 // and come to an end; each promises the protocol's definition, refusals included.
+#![tactic(auto)]
+
 ghost use Rattle.std.specs.Prelude.{◌≡◌, true, cond, eqb, ◌≢◌};
 ghost use Rattle.table.specs.Rules.{reply_says};
 ghost use Rattle.protocol.specs.Walk.{visit};

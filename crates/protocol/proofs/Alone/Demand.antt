@@ -45,7 +45,7 @@ ends_not : {v : Verdict} {vs us : List ℕ} {u x : Worker} → v ≢ going
     → ◌≡◌ {A = Call Verdict} (record { says = gives v; worker = u; words = vs }) (record { says = gives going; worker = x; words = us }) → ⊥
 ends_not n e = n (ap (λ (c : Call Verdict). given_or going c.says) e)
 
-pub one_run : {v v' : Verdict} {vs vs' ws : List ℕ} {u u' w : Worker} {m m' : ℕ} → Runs v vs u ws w m → Runs v' vs' u' ws w m'
+pub one_run : {v v' : Verdict} {vs vs' : List ℕ} {u u' : Worker} {ws : List ℕ} {w : Worker} {m m' : ℕ} → Runs v vs u ws w m → Runs v' vs' u' ws w m'
     → OneRun v vs u m v' vs' u' m'
 one_run (last n e) (last n' e') =
     let q = sym e ∙ e' in

@@ -122,7 +122,7 @@ module _ (ws vs : List ℕ) {S : Values} (h : Shows ws S) (k : ℕ) (others : (j
       go (no n) = other_shows j n
 
 -- a run has an answer
-run_ends : {v : verdict.Verdict} {vs ws : List ℕ} {u w : Worker} {m : ℕ} → Runs v vs u ws w m → v ≢ verdict.going
+run_ends : {v : verdict.Verdict} {vs : List ℕ} {u : Worker} {ws : List ℕ} {w : Worker} {m : ℕ} → Runs v vs u ws w m → v ≢ verdict.going
 run_ends (last n e) = n
 run_ends (more e r) = run_ends r
 

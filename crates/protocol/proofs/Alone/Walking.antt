@@ -153,7 +153,7 @@ module _ {us : List ℕ} (g : Ready us) where
     on_some (down h n t) = omega arith
 
     -- TO THE END OF THE WALK, where b steps are left: a slot a step
-    pub walk_on_lem : {Q : Verdict → List ℕ → Type 0} {at y : ℕ} (b : ℕ) (t : On A k y at) (prev before : ℕ) (side up : Bool) → Way A k at → Came A at prev before side up
+    pub walk_on_lem : {Q : Verdict → List ℕ → Type 0} {y at : ℕ} (b : ℕ) (t : On A k y at) (prev before : ℕ) (side up : Bool) → Way A k at → Came A at prev before side up
         → ((prev before : ℕ) (side up : Bool) → Way A k y → Came A y prev before side up → Comes Q us (busy kind k (Walk y prev before side up)) b)
         → (m : ℕ) → slots_on t + b ≤ suc m → Comes Q us (busy kind k (Walk at prev before side up)) m
     walk_on_lem b here prev before side up w c rest m l = loosen b m (omega arith) (rest prev before side up w c)

@@ -30,7 +30,7 @@ pub record Shape (A : Tab) (rho : ℕ → ℕ) : Type 0 where
 
 module _ {A : Tab} {rho : ℕ → ℕ} (h : Shape A rho) where
   -- ranks rise along a walk
-  pub on_rank : {k x y : ℕ} → On A k y x → A.state x ≢ 0 → (A.state y ≢ 0) × ((x ≡ y) ⊎ (rho x < rho y))
+  pub on_rank : {k y x : ℕ} → On A k y x → A.state x ≢ 0 → (A.state y ≢ 0) × ((x ≡ y) ⊎ (rho x < rho y))
   on_rank here f = (f, inl refl)
   on_rank {k} {y = y} (down {x = x} a b t) f =
       let r = h.rank x (next A k x) (dir A k x) f refl b in

@@ -1,6 +1,6 @@
 -- THE INVARIANT, and that every move of every worker keeps it.
 -- Assumes nothing.
-use mathlib.Core.Path.{◌≡◌, refl, sym, ap, ◌∙◌}
+use mathlib.Core.Path.{◌≡◌, refl, sym, ap, ◌∙◌, subst}
 use mathlib.Core.Bool.{true}
 use mathlib.Core.List.{List, [], ◌∷◌, ◌++◌}
 use mathlib.Core.Logic.{◌⊎◌, ⊎_elim, ◌≢◌}
@@ -85,7 +85,7 @@ module _ {n : ℕ} {A : Tab} {L : ℕ → Which → ℕ} {ws : List Doing} {O : 
   move u e (start i k l) d N o m z S c t y =
       same_table L (busy i k (walk 0 0 0 true)) N S o c (same_locks held idle L v.locked j (busy i k (walk 0 0 0 true)) lj (λ x q. refl) (sym (ap held e)))
       (begin v.shape i k l (z j)) (fit_walk i)
-      (rw (y (λ f. f)) (begin_quick n v.shape i k (let q = d 0 (reached_some v.shape (top refl)) in omega arith))) tt (λ x q. rw e at q)
+      (subst (λ (x : ℕ). Quick n A v.rho x (busy i k (walk 0 0 0 true))) (sym (y (λ f. f))) (begin_quick n v.shape i k (let q = d 0 (reached_some v.shape (top refl)) in omega arith))) tt (λ x q. rw e at q)
   move u e (quietly {j = i} {k = k} {p = p} {q = q} t) d N o m z S c s y =
       let f : Fine A v.rho (N j) (busy i k p) = fine_mono A v.rho (busy i k p) (m tt) (rw e at (v.fine j lj)) in
       let g = quiet v.shape (N j k) t f.0 f.1 f.2 in

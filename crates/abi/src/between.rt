@@ -10,8 +10,7 @@ use calls::numbers::FINE;
 use tree::{FirstFrame, Listed};
 
 // The root and zeros; or 1.
-#[unsafe(no_mangle)]
-pub extern "C" fn pannuqreik_fresh(words: &mut [u64]) -> u64
+pub fn pannuqreik_fresh(words: &mut [u64]) -> u64
     ensures { (result ≡ number (fresh_says words.old)) × (words.new ≡ fresh_words words.old) }
 {
     let made = table::fresh(words);
@@ -19,8 +18,7 @@ pub extern "C" fn pannuqreik_fresh(words: &mut [u64]) -> u64
 }
 
 // 16 sound, 17 not; or 1.
-#[unsafe(no_mangle)]
-pub extern "C" fn pannuqreik_check(words: &[u64]) -> u64
+pub fn pannuqreik_check(words: &[u64]) -> u64
     ensures { result ≡ sound_number (check_says words.now) }
 {
     let found = tree::check(words);
@@ -28,8 +26,7 @@ pub extern "C" fn pannuqreik_check(words: &[u64]) -> u64
 }
 
 // The keys of the set from low to high in the front of `out`, and how many in `count`; or 1, 6, 11.
-#[unsafe(no_mangle)]
-pub extern "C" fn pannuqreik_list(
+pub fn pannuqreik_list(
     words: &[u64],
     low: u64,
     high: u64,
@@ -49,8 +46,7 @@ pub extern "C" fn pannuqreik_list(
 }
 
 // The smallest key of the set at or above `from`, in `key`; or 1, 6, 13.
-#[unsafe(no_mangle)]
-pub extern "C" fn pannuqreik_first(words: &[u64], from: u64, key: &mut u64) -> u64
+pub fn pannuqreik_first(words: &[u64], from: u64, key: &mut u64) -> u64
     ensures { (result ≡ number (first_says words.now from)) × (key.new ≡ value_or (first_says words.now from) key.old) }
 {
     let a = tree::first(words, from);
@@ -64,8 +60,7 @@ pub extern "C" fn pannuqreik_first(words: &[u64], from: u64, key: &mut u64) -> u
 }
 
 // Every deleted slot becomes free; or 1, 8, 6.
-#[unsafe(no_mangle)]
-pub extern "C" fn pannuqreik_sweep(words: &mut [u64]) -> u64
+pub fn pannuqreik_sweep(words: &mut [u64]) -> u64
     ensures { (result ≡ number (sweep_says words.old)) × (words.new ≡ sweep_words words.old) }
 {
     let swept = tree::sweep(words);

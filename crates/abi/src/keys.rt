@@ -8,8 +8,7 @@ use calls::numbers::FINE;
 use moment::{Fields, Packed};
 
 // The key of nine fields, in `key`; or 3.
-#[unsafe(no_mangle)]
-pub extern "C" fn pannuqreik_pack(fields: &[u64; 9], key: &mut u64) -> u64
+pub fn pannuqreik_pack(fields: &[u64; 9], key: &mut u64) -> u64
     ensures { (result ≡ number (packs (fields_at fields.now))) × (key.new ≡ value_or (packs (fields_at fields.now)) key.old) }
 {
     let a = moment::pack(Fields {
@@ -33,8 +32,7 @@ pub extern "C" fn pannuqreik_pack(fields: &[u64; 9], key: &mut u64) -> u64
 }
 
 // The nine fields of any key.
-#[unsafe(no_mangle)]
-pub extern "C" fn pannuqreik_unpack(key: u64, fields: &mut [u64; 9])
+pub fn pannuqreik_unpack(key: u64, fields: &mut [u64; 9])
     ensures { fields.new ≡ listed (fields_of key) }
 {
     let f = moment::unpack(key);
@@ -52,8 +50,7 @@ pub extern "C" fn pannuqreik_unpack(key: u64, fields: &mut [u64; 9])
 }
 
 // Is the key legal?
-#[unsafe(no_mangle)]
-pub extern "C" fn pannuqreik_legal(key: u64) -> bool
+pub fn pannuqreik_legal(key: u64) -> bool
     ensures { result ≡ legal_of key }
 {
     moment::legal(key)

@@ -10,8 +10,7 @@ use calls::numbers::FINE;
 use exif::{SubSecond, TextRead, Written};
 
 // Year, month, day, hour, minute and second of the capture text that is that part of the block; or 11, 12, 10.
-#[unsafe(no_mangle)]
-pub extern "C" fn pannuqreik_read_text(
+pub fn pannuqreik_read_text(
     block: &[u8],
     place: usize,
     length: usize,
@@ -30,8 +29,7 @@ pub extern "C" fn pannuqreik_read_text(
 }
 
 // The two-digit form of the key's date and time, 20 bytes at a place of the buffer; or 3, 11.
-#[unsafe(no_mangle)]
-pub extern "C" fn pannuqreik_write_text(buffer: &mut [u8], place: usize, key: u64) -> u64
+pub fn pannuqreik_write_text(buffer: &mut [u8], place: usize, key: u64) -> u64
     ensures { (result ≡ number (writes buffer.old place key)) × (buffer.new ≡ leaves (writes buffer.old place key) buffer.old) }
 {
     let a = exif::write_text(buffer, place, key);
@@ -42,8 +40,7 @@ pub extern "C" fn pannuqreik_write_text(buffer: &mut [u8], place: usize, key: u6
 }
 
 // The hundredths of the sub-second text that is that part of the block; or 11, 10.
-#[unsafe(no_mangle)]
-pub extern "C" fn pannuqreik_read_sub_second(
+pub fn pannuqreik_read_sub_second(
     block: &[u8],
     place: usize,
     length: usize,

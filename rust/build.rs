@@ -1,4 +1,4 @@
-//! Finds the static library that `rt staticlib abi` writes.
+//! Finds the static library that `./build library` writes.
 use std::{env, path::PathBuf, process};
 
 fn main() {
@@ -11,7 +11,7 @@ fn main() {
     println!("cargo:rerun-if-changed={}", file.display());
     if !file.is_file() {
         eprintln!("{} is not there.", file.display());
-        eprintln!("Run `rt staticlib abi` at the root of the repository, or set PANNUQREIK_LIB to the folder of libabi.a.");
+        eprintln!("Run `./build library` at the root of the repository, or set PANNUQREIK_LIB to the folder of libabi.a.");
         process::exit(1);
     }
     println!("cargo:rustc-link-search=native={}", dir.display());

@@ -9,7 +9,7 @@ use Rattle.moment.specs.declared.Moment.{Moment}
 use Rattle.protocol.specs.declared.Kind.TheVariants.{Lookup, Insert, Remove}
 use Rattle.exif.specs.Reading.{reads}
 use Rattle.tree.specs.Answers.{sweep_words}
-use Rattle.cases.specs.Runs.{Stand, fresh, steps, work, both, first_steps, second_steps, standing}
+use Rattle.cases.specs.Runs.{Stand, fresh, work, both, first_steps, second_steps, standing}
 use Rattle.cases.specs.Texts.{short, long, padded, blank_hour, leap_day2000, leap_day2100, hour24, last_second}
 
 infix 3 ◌is◌

@@ -1,6 +1,6 @@
 -- The light table's runs: a table, workers on it, and what each step answers.
 -- Assumes nothing.
-use Rattle.std.specs.Prelude.{Bool, true, false, List, [], ◌∷◌, ◌++◌, ℕ, zero, suc, ◌+◌, replicate}
+use Rattle.std.specs.Prelude.{List, [], ◌∷◌, ◌++◌, ℕ, zero, suc, ◌+◌, replicate}
 use Rattle.moment.specs.Said.{Said, gives, refuses}
 use Rattle.table.specs.Pair.{word_of}
 use Rattle.table.specs.Rules.{fresh_words}

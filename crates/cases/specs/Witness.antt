@@ -1,15 +1,14 @@
 -- Inputs that meet the premises of the theorems: computed.
 -- Assumes nothing.
-use Rattle.std.specs.Prelude.{◌≡◌, Bool, true, false, cond, List, [], ◌∷◌, ◌++◌, ℕ, ◌+◌}
+use Rattle.std.specs.Prelude.{◌≡◌, Bool, true, false, List, [], ◌∷◌, ℕ, ◌+◌}
 use Rattle.moment.specs.Said.{Said, gives, refuses}
-use Rattle.moment.specs.Key.{legal_of}
 use Rattle.table.specs.Pair.{zero_pair}
-use Rattle.table.specs.Rules.{table_fine, pair_fine, size_fine}
+use Rattle.table.specs.Rules.{table_fine, pair_fine}
 use Rattle.protocol.specs.declared.Kind.{Kind}
 use Rattle.protocol.specs.declared.Kind.TheVariants.{Lookup, Insert, Remove}
-use Rattle.protocol.specs.declared.Work.TheVariants.{Idle, Busy}
+use Rattle.protocol.specs.declared.Work.TheVariants.{Busy}
 use Rattle.protocol.specs.declared.Phase.{Phase}
-use Rattle.protocol.specs.declared.Phase.TheVariants.{Walk, OnRouting, New, Two, One, Leaf, UnderData, UnderRouting}
+use Rattle.protocol.specs.declared.Phase.TheVariants.{Walk, New}
 use Rattle.protocol.specs.declared.Worker.{Worker}
 use Rattle.protocol.specs.Stores.{lowest_fit}
 use Rattle.protocol.specs.Step.{idle_worker, step_of}
@@ -17,7 +16,7 @@ use Rattle.protocol.specs.Calls.{start_of, withdraw_of}
 use Rattle.tree.specs.Judge.{sound_of}
 use Rattle.tree.specs.Answers.{check_says, list_says, first_says, sweep_says}
 use Rattle.cases.specs.Runs.{told}
-use Rattle.cases.specs.LightTable.{A, B, C, D, filled, without_b, without_a, swept}
+use Rattle.cases.specs.LightTable.{A, B, C, D, filled, without_b, without_a}
 
 abbrev pub bit : Bool → ℕ
 bit true = 1

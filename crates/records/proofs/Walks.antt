@@ -1,11 +1,11 @@
 -- Words of a busy walk: they are a record, and which; and they go on as it does.
 -- Assumes nothing.
 use mathlib.Core.Path.{◌≡◌, refl, sym, ap, ◌∙◌}
-use mathlib.Core.Bool.{Bool, true, false}
-use mathlib.Core.List.{List, []}
+use mathlib.Core.Bool.{Bool, true}
+use mathlib.Core.List.{List}
 use Prim.Native.Nat.{ℕ, ◌≤◌, suc, zero}
 use native.Mathlib.Omega.{arith}
-use lib.Dec.{eqb, leb}
+use lib.Dec.{eqb}
 use lib.ListN.{length, get_or}
 use Rattle.moment.proofs.Tests.{tests}
 use Rattle.protocol.specs.declared.Kind.{Kind}

@@ -13,13 +13,13 @@ pub digit_bounds : (b : ℕ) → is_digit b ≡ true → (48 ≤ b) × (b ≤ 57
 unfolding is_digit
 digit_bounds b e = simp tests at e
 
-pub is_digit : (d : ℕ) → d < 10 → is_digit (48 + d) ≡ true
+pub is_digit_lem : (d : ℕ) → d < 10 → is_digit (48 + d) ≡ true
 unfolding is_digit
-is_digit d h = simp tests (omega arith)
+is_digit_lem d h = simp tests (omega arith)
 
 pub value : (d : ℕ) → d < 10 → digit_of (48 + d) ≡ d
 unfolding digit_of
-value d h = let minus : 48 + d - 48 ≡ d = omega arith in simp (is_digit d h, minus)
+value d h = let minus : 48 + d - 48 ≡ d = omega arith in simp (is_digit_lem d h, minus)
 
 -- whatever the byte, its value is that of a digit
 pub small : (b : ℕ) → digit_of b < 10
@@ -28,7 +28,7 @@ small b = by_cases (λ n. n < 10) (is_digit b) (λ e. omega (arith, digit_bounds
 
 -- the same of a number's last digit
 pub last_is_digit : (n : ℕ) → is_digit (48 + n % 10) ≡ true
-last_is_digit n = is_digit (n % 10) (omega arith)
+last_is_digit n = is_digit_lem (n % 10) (omega arith)
 
 pub last_value : (n : ℕ) → digit_of (48 + n % 10) ≡ n % 10
 last_value n = value (n % 10) (omega arith)

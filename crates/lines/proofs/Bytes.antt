@@ -8,6 +8,7 @@ use native.Mathlib.Nat.{add-zero, add-suc, suc-add}
 use native.Mathlib.Numerals.{add-one}
 use native.Mathlib.Omega.{arith}
 use lib.Dec.{eqb}
+use borrow.Author.Tests.{eq-eqb, ne_eqb}
 use lib.ListN.{length, take, drop, get_or, set, drop_of_length-le}
 use lib.Seq.{sets, drop-cons, take-suc, length-take-le}
 use Rattle.layout.proofs.FillLaws.{sets_append}
@@ -42,3 +43,10 @@ module _ (s : List ℕ) (i : ℕ) where
   pub end_out : length s ≤ i → end_of s i ≡ i
   unfolding end_of one_line
   end_out h = rw (drop_of_length-le s {i = i} h) (simp add-zero)
+
+  -- the same, by the byte itself
+  pub end_at : i < length s → get_or s i 0 ≡ 10 → end_of s i ≡ i
+  end_at h e = end_here h (eq-eqb (get_or s i 0) 10 e)
+
+  pub end_past : i < length s → (get_or s i 0 ≡ 10 → ⊥) → end_of s i ≡ end_of s (i + 1)
+  end_past h e = end_more h (ne_eqb (get_or s i 0) 10 e)

@@ -1,7 +1,7 @@
 -- A LINE FED IN PIECES SAYS WHAT THE WHOLE LINE SAYS.
 -- Assumes nothing.
 use mathlib.Core.Path.{◌≡◌, refl, sym, ap, ◌∙◌}
-use mathlib.Core.Bool.{Bool, true, false, ◌||◌, or_false, or-true, or_assoc}
+use mathlib.Core.Bool.{Bool, true, false, ◌||◌, or-false, or-true, or_assoc}
 use mathlib.Core.List.{List, [], ◌∷◌, ◌++◌, append-nil}
 use Prim.Native.Nat.{ℕ, ◌+◌, ◌-◌, ◌≤◌, ◌<◌}
 use native.Mathlib.Nat.{add-zero}
@@ -64,7 +64,7 @@ module _ (l : Line) (kept piece : List ℕ) where
   unfolding fed_line fed_kept has
   fed_short after h e =
       let t = take_all (32 - l.len) piece h in
-      (simp (t, drop_of_length-le piece {i = 32 - l.len} h, or_false), e ∙ simp t)
+      (simp (t, drop_of_length-le piece {i = 32 - l.len} h, or-false), e ∙ simp t)
 
   pub fed_over : (b : Bool) (after : List ℕ) → l.len < 32 → 32 - l.len < length piece
       → b ≡ has 0 (take (length piece - (32 - l.len)) (drop (32 - l.len) piece)) → after ≡ sets kept l.len (take (32 - l.len) piece)

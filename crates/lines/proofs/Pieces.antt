@@ -61,10 +61,14 @@ text_cut j text h = here (leb (length text) j) refl
 
 number_cut : (camera : ℕ) (f g : Front) → Cut 20 f g → form_says (with_number camera f) ≡ form_says (with_number camera g)
 number_cut camera none none nones = refl
+number_cut camera (number v t) none x = elim x [ ]
+number_cut camera none (number v' rest) x = elim x [ ]
 number_cut camera (number v t) (number v' rest) (numbers j r h) = rw (text_cut j r h)
 
 camera_cut : (f g : Front) → Cut 26 f g → form_says (with_camera f) ≡ form_says (with_camera g)
 camera_cut none none nones = refl
+camera_cut (number v t) none x = elim x [ ]
+camera_cut none (number v' rest) x = elim x [ ]
 camera_cut (number v t) (number v' rest) (numbers j r h) = number_cut v _ _ (front_cut 20 j r (omega arith))
 
 -- a line without a NUL says what its first 32 bytes say

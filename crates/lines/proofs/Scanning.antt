@@ -1,6 +1,6 @@
 -- The loop that reads a number, as a recursion, and that it finds just the numbers of Line.antt.
 -- Assumes nothing.
-use mathlib.Core.Path.{◌≡◌, refl, sym}
+use mathlib.Core.Path.{◌≡◌, refl, sym, ◌∙◌}
 use mathlib.Core.Bool.{Bool, true, false, cond, ◌&&◌, and-false}
 use mathlib.Core.List.{List, [], ◌∷◌}
 use Prim.Native.Nat.{ℕ, zero, suc, ◌+◌, ◌*◌, ◌-◌, ◌^◌, ◌≤◌, ◌<◌}
@@ -67,6 +67,10 @@ scan_at s i v d h = rw (drop-cons s i 0 h) (simp add-one)
 pub scan_out : (s : List ℕ) (i v d : ℕ) → length s ≤ i → scan v d (drop i s) ≡ none
 unfolding scan
 scan_out s i v d h = rw (drop_of_length-le s {i = i} h)
+
+-- a sixth digit is one too many
+pub scan_long : (s : List ℕ) (i v d : ℕ) → i < length s → (get_or s i 0 ≡ 32 → ⊥) → is_digit (get_or s i 0) ≡ true → 5 ≤ d → scan v d (drop i s) ≡ none
+scan_long s i v d h e g f = scan_at s i v d h ∙ simp (ne_eqb (get_or s i 0) 32 e, g, le-leb 5 d f)
 
 -- the value of so many digits
 four : (d : ℕ) → d < 5 → 10 ^ d ≤ 10000

@@ -59,6 +59,7 @@ fn is_digit(b: u8) -> bool
 }
 
 // The number of one to five digits at a place, with the blank that ends it.
+#[tactic(auto, using(crate::proofs::Scanning::scan_long))]
 fn number_at(s: &[u8], at: usize) -> Number
     ensures says { number_says result s.now ≡ front_of (drop at s.now) }
     ensures within { next_of result ≤ length s.now }
@@ -220,6 +221,7 @@ pub fn finish(l: Line, kept: &[u8; 32]) -> LineRead
 }
 
 // The place of the first line end from a place on; else where the bytes end.
+#[tactic(auto, using(crate::proofs::Bytes::end_at, crate::proofs::Bytes::end_past))]
 pub fn line_end(s: &[u8], at: usize) -> usize
     ensures { (result ≡ end_of s.now at) × (at ≤ result) × (at ≤ length s.now → result ≤ length s.now) }
 {

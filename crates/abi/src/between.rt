@@ -26,13 +26,7 @@ pub fn pannuqreik_check(words: &[u64]) -> u64
 }
 
 // The keys of the set from low to high in the front of `out`, and how many in `count`; or 1, 6, 11.
-pub fn pannuqreik_list(
-    words: &[u64],
-    low: u64,
-    high: u64,
-    out: &mut [u64],
-    count: &mut u64,
-) -> u64
+pub fn pannuqreik_list(words: &[u64], low: u64, high: u64, out: &mut [u64], count: &mut u64) -> u64
     ensures { (result ≡ number (list_says words.now low high (length out.old))) × (out.new ≡ list_holds words.now low high out.old) × (count.new ≡ value_or (list_says words.now low high (length out.old)) count.old) }
 {
     let a = tree::list_into(words, low, high, out);

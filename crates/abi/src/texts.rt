@@ -10,12 +10,7 @@ use calls::numbers::FINE;
 use exif::{SubSecond, TextRead, Written};
 
 // Year, month, day, hour, minute and second of the capture text that is that part of the block; or 11, 12, 10.
-pub fn pannuqreik_read_text(
-    block: &[u8],
-    place: usize,
-    length: usize,
-    fields: &mut [u64; 6],
-) -> u64
+pub fn pannuqreik_read_text(block: &[u8], place: usize, length: usize, fields: &mut [u64; 6]) -> u64
     ensures { (result ≡ number (reads block.now place length)) × (fields.new ≡ six_or (reads block.now place length) fields.old) }
 {
     let a = exif::read_text(block, place, length);

@@ -21,8 +21,7 @@ use Rattle.protocol.specs.declared.Action.{Action}
 use Rattle.protocol.specs.declared.Action.TheVariants.{End}
 use Rattle.protocol.specs.declared.Answer.TheVariants.{Yes, Full}
 use Rattle.plan.specs.Due.{due_of}
-use Rattle.locks.specs.Taking.{After, after, given_up}
-use Rattle.locks.specs.declared.Acted.{Acted}
+use Rattle.locks.specs.Taking.{after, given_up}
 use Rattle.locks.specs.declared.Acted.TheVariants.{Done, Denied, Finished}
 use Rattle.acting.specs.Acts.{act_on}
 use Rattle.acting.specs.Moves.{Move, leaves, settle, settle_act, plan_move, busy_move, work_move, step_move}

@@ -4,7 +4,7 @@ use mathlib.Core.Path.{◌≡◌, refl, sym, ap, ◌∙◌}
 use mathlib.Core.Bool.{Bool, true, false, cond, not, ◌&&◌, and-eq-true_iff}
 use mathlib.Core.List.{List}
 use Prim.Native.Nat.{ℕ}
-use lib.Dec.{leb, eqb}
+use lib.Dec.{leb}
 use borrow.Author.Tests.{not-true}
 use Rattle.moment.specs.Said.{gives}
 use Rattle.moment.specs.Key.{legal_of}
@@ -14,9 +14,9 @@ use Rattle.protocol.specs.Plan.{at_root}
 use Rattle.protocol.specs.Step.{Call, refused, idle_worker}
 use Rattle.protocol.specs.Calls.{judge_start, seated, start_of}
 use Rattle.protocol.specs.declared.Kind.{Kind}
-use Rattle.protocol.specs.declared.Work.TheVariants.{Idle, Busy}
+use Rattle.protocol.specs.declared.Work.TheVariants.{Busy}
 use Rattle.protocol.specs.declared.Worker.{Worker}
-use Rattle.records.specs.Records.{words_of, worker_of, put_record, is_idle}
+use Rattle.records.specs.Records.{words_of, worker_of, put_record}
 use Rattle.records.proofs.Canonical.{record_words, put_fits}
 use Rattle.records.proofs.Idle.{idle_record}
 use Rattle.calls.specs.Numbers.{number}

@@ -16,7 +16,6 @@ use Rattle.protocol.specs.declared.Kind.TheVariants.{Lookup, Insert, Remove}
 use Rattle.protocol.specs.declared.Work.TheVariants.{Busy}
 use Rattle.protocol.specs.declared.Phase.TheVariants.{Walk}
 use Rattle.protocol.specs.declared.Worker.{Worker}
-use Rattle.protocol.specs.declared.Answer.{Answer}
 use Rattle.protocol.specs.declared.Answer.TheVariants.{Yes, No}
 use Rattle.protocol.specs.declared.Outcome.{Outcome}
 use Rattle.protocol.specs.declared.Outcome.TheVariants.{Ends}

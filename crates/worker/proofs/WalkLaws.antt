@@ -1,6 +1,6 @@
 -- A walk by itself: what the quick tests tell, and what a step of it comes to.
 -- Assumes nothing.
-use mathlib.Core.Path.{◌≡◌, refl, sym, subst, ◌∙◌}
+use mathlib.Core.Path.{◌≡◌, refl, sym, ◌∙◌}
 use mathlib.Core.Bool.{Bool, true, false, cond, not, ◌&&◌, and-eq-true_iff}
 use mathlib.Core.List.{List}
 use mathlib.Core.Logic.{◌≢◌}
@@ -20,7 +20,6 @@ use Rattle.protocol.specs.declared.Kind.TheVariants.{Lookup}
 use Rattle.protocol.specs.declared.Work.TheVariants.{Busy}
 use Rattle.protocol.specs.declared.Phase.TheVariants.{Walk}
 use Rattle.protocol.specs.declared.Answer.TheVariants.{Yes, No}
-use Rattle.protocol.specs.declared.Outcome.{Outcome}
 use Rattle.protocol.specs.declared.Outcome.TheVariants.{Goes, Ends}
 use Rattle.protocol.proofs.Alone.Walking.{legal_below}
 use Rattle.locks.specs.Taking.{after}

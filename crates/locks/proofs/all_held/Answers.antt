@@ -1,17 +1,12 @@
 use borrow.Author.Rules.{rules}
 use mathlib.Core.Path.{◌≡◌, ◌∙◌}
-use mathlib.Core.Bool.{Bool}
-use mathlib.Core.List.{List}
-use Prim.Native.Nat.{ℕ, ◌-◌, ◌≤◌, ◌<◌}
+use Prim.Native.Nat.{◌<◌}
 use native.Mathlib.Omega.{arith}
-use Rattle.protocol.specs.Locks.{all_held}
-use Rattle.protocol.specs.declared.Phase.{Phase}
 use Rattle.protocol.proofs.LockLaws.{held_none, held_more}
 use Rattle.plan.specs.First.{locks_of}
 use Rattle.locks.specs.Taking.{at_most}
 use Rattle.locks.proofs.First.{held_at, at_most_le, locks_first}
 use Rattle.locks.proofs.all_held.Goals as goal
-use Rattle.locks.proofs.all_held.Invariants.{Judged}
 
 pub loop-i-init : goal.loop-i-init
 loop-i-init c = record { within = search rules; most = rw (← c.locks_of.ensures) c.at_most-asked.ensures; holds = held_none _ _ }

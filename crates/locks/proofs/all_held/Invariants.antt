@@ -1,15 +1,11 @@
-use borrow.Author.Rules.{rules}
-use mathlib.Core.Path.{◌≡◌, ◌∙◌}
+use mathlib.Core.Path.{◌≡◌}
 use mathlib.Core.Bool.{Bool}
 use mathlib.Core.List.{List}
-use Prim.Native.Nat.{ℕ, ◌-◌, ◌≤◌, ◌<◌}
-use native.Mathlib.Omega.{arith}
+use Prim.Native.Nat.{ℕ, ◌-◌, ◌≤◌}
 use Rattle.protocol.specs.Locks.{all_held}
 use Rattle.protocol.specs.declared.Phase.{Phase}
-use Rattle.protocol.proofs.LockLaws.{held_none, held_more}
 use Rattle.plan.specs.First.{locks_of}
 use Rattle.locks.specs.Taking.{at_most}
-use Rattle.locks.proofs.First.{held_at, at_most_le, locks_first}
 use Rattle.locks.proofs.all_held.Given as goal
 
 -- the first i of the plan are judged, of n that are locks

@@ -1,7 +1,5 @@
 use mathlib.Core.Path.{sym, ◌∙◌}
-use borrow.Author.Tests.{not-true, not-false}
 use Rattle.locks.specs.Taking.{given_up}
-use borrow.Author.Rules.{rules}
 use Rattle.locks.proofs.give_up.Goals as goal
 
 pub returns-then-not-all_held : goal.returns-then-not-all_held

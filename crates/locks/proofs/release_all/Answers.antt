@@ -1,17 +1,12 @@
 use borrow.Author.Rules.{rules}
 use mathlib.Core.Path.{◌≡◌, refl, ◌∙◌}
-use mathlib.Core.List.{List}
-use Prim.Native.Nat.{ℕ, ◌-◌, ◌≤◌, ◌<◌}
+use Prim.Native.Nat.{◌<◌}
 use native.Mathlib.Omega.{arith}
-use lib.ListN.{length}
-use Rattle.protocol.specs.Locks.{released}
-use Rattle.protocol.specs.declared.Phase.{Phase}
 use Rattle.protocol.proofs.LockLaws.{released_none, released_more}
 use Rattle.plan.specs.First.{locks_of}
 use Rattle.locks.specs.Taking.{at_most}
 use Rattle.locks.proofs.First.{freed_at, at_most_le, locks_first}
 use Rattle.locks.proofs.release_all.Goals as goal
-use Rattle.locks.proofs.release_all.Invariants.{Gone}
 
 pub loop-i-init : goal.loop-i-init
 loop-i-init c = record { within = search rules; most = rw (← c.locks_of.ensures) c.at_most-held.ensures; same = refl; holds = released_none _ _ }

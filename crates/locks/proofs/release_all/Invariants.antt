@@ -1,15 +1,11 @@
-use borrow.Author.Rules.{rules}
-use mathlib.Core.Path.{◌≡◌, refl, ◌∙◌}
+use mathlib.Core.Path.{◌≡◌}
 use mathlib.Core.List.{List}
-use Prim.Native.Nat.{ℕ, ◌-◌, ◌≤◌, ◌<◌}
-use native.Mathlib.Omega.{arith}
+use Prim.Native.Nat.{ℕ, ◌-◌, ◌≤◌}
 use lib.ListN.{length}
 use Rattle.protocol.specs.Locks.{released}
 use Rattle.protocol.specs.declared.Phase.{Phase}
-use Rattle.protocol.proofs.LockLaws.{released_none, released_more}
 use Rattle.plan.specs.First.{locks_of}
 use Rattle.locks.specs.Taking.{at_most}
-use Rattle.locks.proofs.First.{freed_at, at_most_le, locks_first}
 use Rattle.locks.proofs.release_all.Given as goal
 
 -- the first i of the plan are given up, of n that are locks

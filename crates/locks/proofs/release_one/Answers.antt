@@ -1,5 +1,4 @@
 use Rattle.locks.specs.Holding.{freed_by}
-use borrow.Author.Rules.{rules}
 use Rattle.locks.proofs.release_one.Goals as goal
 
 pub returns : goal.returns

@@ -1,10 +1,8 @@
 use mathlib.Core.Path.{sym, ◌∙◌}
 use native.Mathlib.Omega.{arith}
-use borrow.Author.Tests.{not-true, not-false}
 use Rattle.table.proofs.PairLaws.{lock_lt}
 use Rattle.protocol.proofs.LockLaws.{weight_lt}
 use Rattle.locks.specs.Taking.{take_lock}
-use borrow.Author.Rules.{rules}
 use Rattle.locks.proofs.take_lock.Goals as goal
 
 pub returns-then-not-is_granted : goal.returns-then-not-is_granted

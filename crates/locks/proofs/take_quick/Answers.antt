@@ -1,12 +1,10 @@
-use mathlib.Core.Path.{refl, sym, ap, ◌∙◌}
+use mathlib.Core.Path.{sym, ap, ◌∙◌}
 use native.Mathlib.Omega.{arith}
-use borrow.Author.Tests.{not-true, not-false}
 use Rattle.table.proofs.PairLaws.{lock_lt}
 use Rattle.protocol.proofs.LockLaws.{weight_lt}
 use Rattle.locks.specs.Taking.{after, take_lock}
 use Rattle.locks.specs.declared.Acted.TheVariants.{Done}
-use Rattle.locks.proofs.Quick.{nothing, kept, done}
-use borrow.Author.Rules.{rules}
+use Rattle.locks.proofs.Quick.{kept, done}
 use Rattle.locks.proofs.take_quick.Goals as goal
 
 pub returns-then-not-is_granted : goal.returns-then-not-is_granted

@@ -1,0 +1,31 @@
+use mathlib.Core.Path.{◌≡◌, sym, ◌∙◌}
+use mathlib.Core.Bool.{Bool, true}
+use mathlib.Core.List.{List}
+use Prim.Native.Nat.{ℕ}
+use native.Mathlib.Omega.{arith}
+use Rattle.records.specs.Records.{is_walk}
+use Rattle.records.proofs.Walks.{walk_length}
+use Rattle.calls.proofs.WalkCalls.{walk_call}
+use Rattle.calls.proofs.step.Goals as goal
+
+-- the words are a walk's, where `records::is_walk` says so
+walks : (s : List ℕ) (b : Bool) → b ≡ is_walk s → b ≡ true → is_walk s ≡ true
+walks s b e t = sym e ∙ t
+
+pub bounds-lent-1 : goal.bounds-lent-1
+bounds-lent-1 c = omega (arith, walk_length _ (walks _ _ c.is_walk.ensures c.if-not-is_walk.false))
+
+pub bounds-lent-3 : goal.bounds-lent-3
+bounds-lent-3 c = omega (arith, walk_length _ (walks _ _ c.is_walk.ensures c.if-not-is_walk.false))
+
+pub bounds-lent-4 : goal.bounds-lent-4
+bounds-lent-4 c = omega (arith, walk_length _ (walks _ _ c.is_walk.ensures c.if-not-is_walk.false))
+
+pub bounds-lent-6 : goal.bounds-lent-6
+bounds-lent-6 c = omega (arith, walk_length _ (walks _ _ c.is_walk.ensures c.if-not-is_walk.false))
+
+pub returns : goal.returns
+returns c =
+    let n = c.next_slot-next.ensures c.if-next-eq0.false in
+    let p = rw c.key.ensures at c.walk_on.ensures in
+    walk_call _ _ _ (walks _ _ c.is_walk.ensures c.if-not-is_walk.false) n.0 n.1 c.if-next-eq-ENDS.false p

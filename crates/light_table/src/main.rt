@@ -1,6 +1,7 @@
 // Document 01's light table, run on the compiled code: one line a case, in the document's words. The cases that it marks P
 // are proved of the definitions in crate `cases`; here they run once more, with those that it only runs.
 #![tactic(auto)]
+
 mod limits;
 mod runs;
 mod tables;

@@ -1,6 +1,7 @@
 // The record of a worker, the plan's actions and the answers, as types. No function has a body here: what start, step
 // and withdraw do stands in specs/ as definitions, and the laws of it in proofs/.
 #![tactic(auto)]
+
 use table::{Reply, Which};
 
 // What a worker may be busy with.

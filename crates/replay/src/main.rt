@@ -1,6 +1,7 @@
 // Replays a written order of calls, one a line, and shows each answer: for support, and for tests. A thin program over
 // the proved crates; README.md has a run of it.
 #![tactic(auto)]
+
 mod asked;
 mod between;
 mod commands;

@@ -8,12 +8,15 @@ mod tables;
 mod telling;
 mod texts;
 
-fn main() {
-    texts::keys();
-    texts::read_or_refused();
-    tables::two_slots();
-    tables::four_slots();
-    tables::two_inserts();
-    limits::sizes();
-    limits::seats();
+use std::io;
+
+fn main(rt: HostRuntime) -> io::Result<()> {
+    let mut out = rt.stdout();
+    texts::keys(&mut out)?;
+    texts::read_or_refused(&mut out)?;
+    tables::two_slots(&mut out)?;
+    tables::four_slots(&mut out)?;
+    tables::two_inserts(&mut out)?;
+    limits::sizes(&mut out)?;
+    limits::seats(&mut out)
 }

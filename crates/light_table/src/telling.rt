@@ -1,12 +1,18 @@
 // One line a case: whether it holds, and what it says.
-use libc::STDOUT_FILENO;
+ghost use Rattle.std.specs.Prelude.{◌≡◌, true, false, OnOk, ◌++◌, codes};
+ghost use Rattle.std.specs.Io.KnownBytes.{Appends};
 
-pub fn tell(case: &[u8], holds: bool) {
+use std::io::{self, Write};
+
+pub fn tell<W: Write>(out: &mut W, case: &[u8], holds: bool) -> io::Result<()>
+    ensures holds { holds ≡ true → OnOk result (Appends (W.contents out.old) (W.contents out.new) (codes "holds: " ++ case.now ++ codes "\n")) }
+    ensures fails { holds ≡ false → OnOk result (Appends (W.contents out.old) (W.contents out.new) (codes "FAILS: " ++ case.now ++ codes "\n")) }
+{
     if holds {
-        io::write_all(STDOUT_FILENO, b"holds: ");
+        out.write_all(b"holds: ")?;
     } else {
-        io::write_all(STDOUT_FILENO, b"FAILS: ");
+        out.write_all(b"FAILS: ")?;
     }
-    io::write_all(STDOUT_FILENO, case);
-    io::write_all(STDOUT_FILENO, b"\n");
+    out.write_all(case)?;
+    out.write_all(b"\n")
 }

@@ -2,6 +2,7 @@
 use super::telling::tell;
 use exif::{SubSecond, TextRead, Written};
 use moment::{Fields, Packed};
+use std::io::{self, Write};
 
 // The number that reading a text is refused with; 0 where it is read.
 fn refusal(text: &[u8]) -> u64 {
@@ -45,7 +46,7 @@ fn written_as(key: u64, text: &[u8; 20]) -> bool {
     let answer = exif::write_text(&mut buffer, 0, key);
     match answer {
         Written::Refused(_) => false,
-        Written::Done => check::same(&buffer, text),
+        Written::Done => buffer == *text,
     }
 }
 
@@ -58,50 +59,63 @@ fn hundredths(text: &[u8]) -> u64 {
 }
 
 // The keys of the sorting program's example, and their order.
-pub fn keys() {
+pub fn keys<W: Write>(out: &mut W) -> io::Result<()> {
     let first = key_of(b"2024:06:15 9:58:07\0", 101);
     let second = key_of(b"2024:06:15 10:02:07\0", 102);
     tell(
+        out,
         b"frame 101 of camera 1, 9:58:07, has key 7E867A7A1C004065",
         first == 0x7E867A7A1C004065,
-    );
+    )?;
     tell(
+        out,
         b"frame 102 of camera 1, 10:02:07, has key 7E867A821C004066",
         second == 0x7E867A821C004066,
-    );
-    tell(b"the first is smaller", first < second);
+    )?;
+    tell(out, b"the first is smaller", first < second)?;
     tell(
+        out,
         b"the first is written 2024:06:15 09:58:07",
         written_as(first, b"2024:06:15 09:58:07\0"),
-    );
+    )
 }
 
 // What is read and what is refused.
-pub fn read_or_refused() {
+pub fn read_or_refused<W: Write>(out: &mut W) -> io::Result<()> {
     tell(
+        out,
         b"2000:02:29 is read",
         refusal(b"2000:02:29 12:00:00\0") == 0,
-    );
+    )?;
     tell(
+        out,
         b"2100:02:29 is refused 10",
         refusal(b"2100:02:29 12:00:00\0") == 10,
-    );
+    )?;
     tell(
+        out,
         b"hour 24 is refused 10",
         refusal(b"2024:06:15 24:00:00\0") == 10,
-    );
-    tell(b"23:59:59 is read", refusal(b"2024:06:15 23:59:59\0") == 0);
+    )?;
+    tell(
+        out,
+        b"23:59:59 is read",
+        refusal(b"2024:06:15 23:59:59\0") == 0,
+    )?;
     let blank = key_of(b"2024:06:15  9:58:07\0", 101);
     tell(
+        out,
         b"a blank hour, 2024:06:15  9:58:07, equals 09:58:07",
         blank == key_of(b"2024:06:15 09:58:07\0", 101),
-    );
+    )?;
     tell(
+        out,
         b"a time of blanks is refused 12",
         refusal(b"                   \0") == 12,
-    );
+    )?;
     tell(
+        out,
         b"sub-second text 5 is 5 hundredths",
         hundredths(b"5\0") == 5,
-    );
+    )
 }

@@ -57,7 +57,7 @@ const ROOM: u64 = 1100;
 pub const RECORDS: u64 = 32;
 
 // A command and its numbers; what it does not have is 0.
-#[derive(Drop)]
+#[derive(Clone, Copy)]
 pub struct Asked {
     pub command: u64,
     pub x: u64,

@@ -1,6 +1,7 @@
 // The commands that speak of a slot by its key and its fields. Where a field lies is known to the crate `table` alone.
 use script::line::Split;
 use script::{answers, fields};
+use std::io::{self, Write};
 use table::Which;
 
 // The fields of a slot, in the order of `script::fields`.
@@ -76,33 +77,40 @@ fn other(table: &[u64], i: u64, f: &[u64; 7]) -> u64 {
     table::fields(table, i) ^ table::fields(&own, j)
 }
 
-pub fn key(table: &mut [u64], i: u64, key: u64) {
+pub fn key<W: Write>(out: &mut W, table: &mut [u64], i: u64, key: u64) -> io::Result<()> {
     table::set_key(table, i, key);
-    answers::done();
+    answers::done(out)
 }
 
 // `put I ..`: what the fields do not hold changes nothing.
-pub fn put(s: &[u8], w: Split, table: &mut [u64], i: u64, number: u64) {
+pub fn put<W: Write>(
+    out: &mut W,
+    s: &[u8],
+    w: Split,
+    table: &mut [u64],
+    i: u64,
+    number: u64,
+) -> io::Result<()> {
     let mut f = [0u64; 7];
     if fields::parse(s, w, i == 0, &mut f) & fit(i, &f) {
         set(table, i, &f);
-        answers::done();
+        answers::done(out)
     } else {
-        answers::bad(number);
+        answers::bad(out, number)
     }
 }
 
 // Bits that should be zero are shown where one of them is not.
-pub fn show(table: &[u64], i: u64) {
+pub fn show<W: Write>(out: &mut W, table: &[u64], i: u64) -> io::Result<()> {
     let mut f = [0u64; 7];
     get(table, i, &mut f);
-    answers::hexadecimal(table::key(table, i));
-    answers::text(b" ");
-    fields::print(&f, i == 0);
+    answers::hexadecimal(out, table::key(table, i))?;
+    answers::text(out, b" ")?;
+    fields::print(out, &f, i == 0)?;
     let rest = other(table, i, &f);
     if rest != 0 {
-        answers::text(b" other ");
-        answers::hexadecimal(rest);
+        answers::text(out, b" other ")?;
+        answers::hexadecimal(out, rest)?;
     }
-    answers::text(b"\n");
+    answers::text(out, b"\n")
 }

@@ -1,27 +1,35 @@
 // A slot's fields as words of a line, printed and read: the state by name, `links` and two numbers, `locks` and three, and
 // for the root `busy` and one. The fields themselves are seven numbers: state, left link, right link, the locks of the
 // state, the left edge and the right edge, and how many workers are busy, which is 0 for every other slot.
+ghost use Rattle.std.specs.Prelude.{OnOk, ◌++◌, codes};
+ghost use Rattle.std.specs.Fmt.{decimal};
+ghost use Rattle.std.specs.Io.KnownBytes.{Appends};
+
 use super::line::{Num, Split};
 use super::{answers, line, names};
+use std::io::{self, Write};
 
-fn print_number(n: u64) {
-    answers::text(b" ");
-    answers::decimal(n);
+fn print_number<W: Write>(out: &mut W, n: u64) -> io::Result<()>
+    ensures { OnOk result (Appends (W.contents out.old) (W.contents out.new) (codes " " ++ decimal n)) }
+{
+    answers::text(out, b" ")?;
+    answers::decimal(out, n)
 }
 
-pub fn print(f: &[u64; 7], root: bool) {
-    names::print(b"free data routing deleted", f[0]);
-    answers::text(b" links");
-    print_number(f[1]);
-    print_number(f[2]);
-    answers::text(b" locks");
-    print_number(f[3]);
-    print_number(f[4]);
-    print_number(f[5]);
+pub fn print<W: Write>(out: &mut W, f: &[u64; 7], root: bool) -> io::Result<()> {
+    names::print(out, b"free data routing deleted", f[0])?;
+    answers::text(out, b" links")?;
+    print_number(out, f[1])?;
+    print_number(out, f[2])?;
+    answers::text(out, b" locks")?;
+    print_number(out, f[3])?;
+    print_number(out, f[4])?;
+    print_number(out, f[5])?;
     if root {
-        answers::text(b" busy");
-        print_number(f[6]);
+        answers::text(out, b" busy")?;
+        print_number(out, f[6])?;
     }
+    Ok(())
 }
 
 // A word as a number; what is none is more than any field holds.

@@ -3,7 +3,7 @@ ghost use Rattle.std.specs.Prelude.{◌<◌, ◌≤◌, length};
 
 // Where each word of a line begins and ends, and how many there are. More than twelve words, or blanks that do not stand
 // one between two words, make it no command: `fine` is false.
-#[derive(Drop)]
+#[derive(Clone, Copy)]
 pub struct Split {
     pub from: [usize; 12],
     pub to: [usize; 12],
@@ -12,7 +12,7 @@ pub struct Split {
 }
 
 // What a word says as a number.
-#[derive(Drop)]
+#[derive(Clone, Copy)]
 pub enum Num {
     Value(u64),
     Bad,

@@ -3,6 +3,7 @@
 ghost use Rattle.std.specs.Prelude.{◌≤◌, length};
 
 use super::{answers, line};
+use std::io::{self, Write};
 
 // Where the name at a place of the list ends.
 fn name_end(names: &[u8], at: usize) -> usize
@@ -35,15 +36,16 @@ pub fn place(s: &[u8], from: usize, to: usize, names: &[u8]) -> u64 {
 }
 
 // Prints the name at a place.
-pub fn print(names: &[u8], place: u64) {
+pub fn print<W: Write>(out: &mut W, names: &[u8], place: u64) -> io::Result<()> {
     let mut at = 0;
     let mut n = 0;
     while at < names.len() {
         let end = name_end(names, at);
         if n == place {
-            answers::text(&names[at..end]);
+            answers::text(out, &names[at..end])?;
         }
         n = std::num::wrapping_add_u64(n, 1);
         at = end + 1;
     }
+    Ok(())
 }

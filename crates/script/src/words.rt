@@ -3,6 +3,7 @@
 // of which 0 stands for what the phase does not have.
 use super::line::{Num, Split};
 use super::{answers, line, names};
+use std::io::{self, Write};
 
 // Which of the fields this, prev, side, before, up, other, toward, done a phase has, the first as bit 0: walk,
 // on-routing, new, two, one, leaf, under-data, under-routing.
@@ -24,48 +25,49 @@ fn is_side(field: usize) -> bool {
     (field == 2) | (field == 4) | (field == 6)
 }
 
-fn print_field(field: usize, value: u64) {
-    answers::text(b" ");
+fn print_field<W: Write>(out: &mut W, field: usize, value: u64) -> io::Result<()> {
+    answers::text(out, b" ")?;
     if is_side(field) {
-        names::print(b"left right", value);
-        return;
+        return names::print(out, b"left right", value);
     }
-    answers::decimal(value);
+    answers::decimal(out, value)
 }
 
 // The fields of a record that the phase has.
-fn print_fields(phase: u64, fields: &[u64]) {
+fn print_fields<W: Write>(out: &mut W, phase: u64, fields: &[u64]) -> io::Result<()> {
     let mut i = 0;
     while i < fields.len() {
         if has(phase, i) {
-            print_field(i, fields[i]);
+            print_field(out, i, fields[i])?;
         }
         i += 1;
     }
+    Ok(())
 }
 
-fn print_work(work: u64) {
-    names::print(b"idle lookup insert remove", work);
+fn print_work<W: Write>(out: &mut W, work: u64) -> io::Result<()> {
+    names::print(out, b"idle lookup insert remove", work)
 }
 
-fn print_phase(phase: u64) {
+fn print_phase<W: Write>(out: &mut W, phase: u64) -> io::Result<()> {
     names::print(
+        out,
         b"walk on-routing new two one leaf under-data under-routing",
         phase,
-    );
+    )
 }
 
-pub fn print(r: &[u64]) {
+pub fn print<W: Write>(out: &mut W, r: &[u64]) -> io::Result<()> {
     if r.len() != 11 {
-        return;
+        return Ok(());
     }
-    print_work(r[0]);
-    answers::text(b" ");
-    answers::hexadecimal(r[1]);
-    answers::text(b" ");
-    print_phase(r[2]);
-    print_fields(r[2], &r[3..]);
-    answers::text(b"\n");
+    print_work(out, r[0])?;
+    answers::text(out, b" ")?;
+    answers::hexadecimal(out, r[1])?;
+    answers::text(out, b" ")?;
+    print_phase(out, r[2])?;
+    print_fields(out, r[2], &r[3..])?;
+    answers::text(out, b"\n")
 }
 
 // The number of a kind of work; 4 for any other word.

@@ -29,7 +29,7 @@ use Rattle.records.specs.Records.{kind_number, flat_of, words_of, worker_of, put
 use Rattle.records.proofs.Canonical.{put_fits}
 use Rattle.records.proofs.Walks.{walker, walker_of, Walking, walking, walk_record, walk_goes_on}
 use Rattle.calls.specs.Numbers.{verdict_number}
-use Rattle.calls.specs.Workers.{Comes, put_moved, kind_at}
+use Rattle.calls.specs.Workers.{Comes, call_number, call_record, call_words, put_moved, kind_at}
 use Rattle.calls.proofs.MovedCalls.{moved_call}
 
 kind_back : (k : Kind) → kind_at (kind_number k) ≡ k
@@ -71,6 +71,22 @@ pub walk_six : (ws s : List ℕ) → is_walk s ≡ true → table_fine ws ≡ tr
     → walk_fine ws (get_or s 1 0) (get_or s 3 0) (get_or s 4 0) (get_or s 6 0) ≡ false → Comes verdict_number ws s (step_of ws (worker_of s)) 6 s ws
 walk_six ws s i t f = let w = walking s i in
     refused_call ws s w 6 (unfine_move ws w.kind (get_or s 1 0) (get_or s 3 0) (get_or s 4 0) (get_or s 6 0) (eqb (get_or s 5 0) 0) (eqb (get_or s 7 0) 0) t f)
+
+-- the same in parts, where the tests' answers are known by name: i says whether it is a walk, t and f whether table and walk are fine
+pub six_number : (ws s : List ℕ) (i t f : Bool) → i ≡ is_walk s → i ≡ true → t ≡ table_fine ws → t ≡ true
+    → f ≡ walk_fine ws (get_or s 1 0) (get_or s 3 0) (get_or s 4 0) (get_or s 6 0) → f ≡ false
+    → 6 ≡ call_number verdict_number ws s (step_of ws (worker_of s))
+six_number ws s b c a d i e t g f = (walk_six ws s (sym d ∙ i) (sym e ∙ t) (sym g ∙ f)).0
+
+pub six_record : (ws s : List ℕ) (i t f : Bool) → i ≡ is_walk s → i ≡ true → t ≡ table_fine ws → t ≡ true
+    → f ≡ walk_fine ws (get_or s 1 0) (get_or s 3 0) (get_or s 4 0) (get_or s 6 0) → f ≡ false
+    → s ≡ call_record s (step_of ws (worker_of s))
+six_record ws s b c a d i e t g f = (walk_six ws s (sym d ∙ i) (sym e ∙ t) (sym g ∙ f)).1
+
+pub six_words : (ws s : List ℕ) (i t f : Bool) → i ≡ is_walk s → i ≡ true → t ≡ table_fine ws → t ≡ true
+    → f ≡ walk_fine ws (get_or s 1 0) (get_or s 3 0) (get_or s 4 0) (get_or s 6 0) → f ≡ false
+    → ws ≡ call_words ws s (step_of ws (worker_of s))
+six_words ws s b c a d i e t g f = (walk_six ws s (sym d ∙ i) (sym e ∙ t) (sym g ∙ f)).2
 
 -- A STEP OF A WALK THAT IS FINE
 pub walk_ends : (ws s : List ℕ) (m : Moved) {n : ℕ} {s' ws' : List ℕ} → is_walk s ≡ true → fine_at ws s

@@ -165,6 +165,7 @@ fn walk_end(words: &mut [u64], lent: &mut [u64]) -> u64
 }
 
 // One step of any words: of a plan's phase, of a walk that is judged exactly, else of the record that they are.
+#[tactic(auto, using(crate::proofs::WalkCalls::six_number, crate::proofs::WalkCalls::six_record, crate::proofs::WalkCalls::six_words))]
 fn other_step(words: &mut [u64], lent: &mut [u64]) -> u64
     ensures { Comes verdict_number words.old lent.old (step_of words.old (worker_of lent.old)) result lent.new words.new }
 {

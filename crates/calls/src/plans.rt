@@ -58,6 +58,7 @@ fn remove_due(n: u64, f: Flat) -> Action
 }
 
 // The action that is due, where the roles are fine; of words that have no plan none is.
+#[tactic(auto, unfolding(crate::specs::Workers::due_in, records::specs::Records::worker_at, records::specs::Records::work_at))]
 fn due_of(n: u64, f: Flat) -> Action
     ensures { result ≡ due_in n (worker_at f) }
 {

@@ -3,10 +3,11 @@ use mathlib.Core.Bool.{Bool, true}
 use mathlib.Core.List.{List}
 use Prim.Native.Nat.{ℕ}
 use native.Mathlib.Omega.{arith}
-use borrow.Author.Tests.{not-true, not-false}
+use borrow.Author.Rules.{rules}
+use borrow.Author.Tests.{not-true}
 use Rattle.records.specs.Records.{is_walk}
 use Rattle.records.proofs.Walks.{walk_length}
-use Rattle.calls.proofs.WalkCalls.{walk_one, walk_six, walk_call}
+use Rattle.calls.proofs.WalkCalls.{walk_one, walk_call}
 use Rattle.calls.proofs.other_step.Goals as goal
 
 -- the words are a walk's, where `records::is_walk` says so
@@ -28,11 +29,7 @@ bounds-lent-4 c = omega (arith, walk_length _ (walks _ _ c.is_walk.ensures c.if-
 pub bounds-lent-6 : goal.bounds-lent-6
 bounds-lent-6 c = omega (arith, walk_length _ (walks _ _ c.is_walk.ensures c.if-not-is_walk.false))
 
-pub returns-then-not-walk_fine : goal.returns-then-not-walk_fine
-returns-then-not-walk_fine c =
-    walk_six _ _ (walks _ _ c.is_walk.ensures c.if-not-is_walk.false) (sym c.table_fine.ensures ∙ not-false c.table_fine.result c.if-not-table_fine.false-raw) (sym c.walk_fine.ensures ∙ not-true c.walk_fine.result c.if-not-walk_fine.true-raw)
-
 pub returns : goal.returns
 returns c =
     let p = rw c.key.ensures at c.walk_on.ensures in
-    walk_call _ _ _ (walks _ _ c.is_walk.ensures c.if-not-is_walk.false) (sym c.walk_fine.ensures ∙ c.if-not-walk_fine.false) c.walk_to-next.ensures c.if-next-eq-ENDS.false p
+    walk_call _ _ _ (walks _ _ c.is_walk.ensures c.if-not-is_walk.false) (sym c.walk_fine.ensures ∙ search rules) c.walk_to-next.ensures c.if-next-eq-ENDS.false p

@@ -5,9 +5,8 @@ ghost use Rattle.tree.specs.Answers.{check_says, list_says, list_holds, first_sa
 ghost use Rattle.calls.specs.Numbers.{number, sound_number};
 ghost use Rattle.abi.specs.Values.{value_or};
 
+use crate::hand_back;
 use calls::numbers;
-use calls::numbers::FINE;
-use tree::{FirstFrame, Listed};
 
 // The root and zeros; or 1.
 pub fn pannuqreik_fresh(words: &mut [u64]) -> u64
@@ -29,28 +28,15 @@ pub fn pannuqreik_check(words: &[u64]) -> u64
 pub fn pannuqreik_list(words: &[u64], low: u64, high: u64, out: &mut [u64], count: &mut u64) -> u64
     ensures { (result ≡ number (list_says words.now low high (length out.old))) × (out.new ≡ list_holds words.now low high out.old) × (count.new ≡ value_or (list_says words.now low high (length out.old)) count.old) }
 {
-    let a = tree::list_into(words, low, high, out);
-    match a {
-        Listed::Count(n) => {
-            *count = n as u64;
-            FINE
-        }
-        Listed::Refused(n) => n,
-    }
+    let listed = tree::list_into(words, low, high, out);
+    hand_back(listed.map(|n| n as u64), count)
 }
 
 // The smallest key of the set at or above `from`, in `key`; or 1, 6, 13.
 pub fn pannuqreik_first(words: &[u64], from: u64, key: &mut u64) -> u64
     ensures { (result ≡ number (first_says words.now from)) × (key.new ≡ value_or (first_says words.now from) key.old) }
 {
-    let a = tree::first(words, from);
-    match a {
-        FirstFrame::Key(k) => {
-            *key = k;
-            FINE
-        }
-        FirstFrame::Refused(n) => n,
-    }
+    hand_back(tree::first(words, from), key)
 }
 
 // Every deleted slot becomes free; or 1, 8, 6.

@@ -4,31 +4,45 @@ ghost use Rattle.moment.specs.Key.{listed, packs, fields_of, legal_of};
 ghost use Rattle.calls.specs.Numbers.{number};
 ghost use Rattle.abi.specs.Values.{value_or, fields_at};
 
-use calls::numbers::FINE;
-use moment::{Fields, Packed};
+use crate::hand_back;
+use moment::{Fields, Moment};
+
+// The fields that nine numbers are.
+#[tactic(auto, unfolding(crate::specs::Values::fields_at))]
+fn fields_at(n: &[u64; 9]) -> Fields
+    ensures { result ≡ fields_at n.now }
+{
+    let &[
+        year,
+        month,
+        day,
+        hour,
+        minute,
+        second,
+        hundredth,
+        camera,
+        number,
+    ] = n;
+    Fields {
+        moment: Moment {
+            year,
+            month,
+            day,
+            hour,
+            minute,
+            second,
+        },
+        hundredth,
+        camera,
+        number,
+    }
+}
 
 // The key of nine fields, in `key`; or 3.
 pub fn pannuqreik_pack(fields: &[u64; 9], key: &mut u64) -> u64
     ensures { (result ≡ number (packs (fields_at fields.now))) × (key.new ≡ value_or (packs (fields_at fields.now)) key.old) }
 {
-    let a = moment::pack(Fields {
-        year: fields[0],
-        month: fields[1],
-        day: fields[2],
-        hour: fields[3],
-        minute: fields[4],
-        second: fields[5],
-        hundredth: fields[6],
-        camera: fields[7],
-        number: fields[8],
-    });
-    match a {
-        Packed::Key(k) => {
-            *key = k;
-            FINE
-        }
-        Packed::Refused(n) => n,
-    }
+    hand_back(moment::pack(fields_at(fields)), key)
 }
 
 // The nine fields of any key.
@@ -36,13 +50,14 @@ pub fn pannuqreik_unpack(key: u64, fields: &mut [u64; 9])
     ensures { fields.new ≡ listed (fields_of key) }
 {
     let f = moment::unpack(key);
+    let m = f.moment;
     *fields = [
-        f.year,
-        f.month,
-        f.day,
-        f.hour,
-        f.minute,
-        f.second,
+        m.year,
+        m.month,
+        m.day,
+        m.hour,
+        m.minute,
+        m.second,
         f.hundredth,
         f.camera,
         f.number,

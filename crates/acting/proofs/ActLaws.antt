@@ -1,58 +1,29 @@
--- What `_` leaves of a `match`, by the places in the enum; and the actions of a plan that neither walks nor looks.
+-- What `_` leaves of a `match`, by the places in the enum; what a look comes to; and the actions of a plan that neither walks nor looks.
 -- Assumes nothing.
-use mathlib.Core.Path.{◌≡◌, refl}
-use mathlib.Core.Bool.{Bool, true}
+use mathlib.Core.Path.{◌≡◌, refl, sym, ap}
+use mathlib.Core.Bool.{Bool, true, false, cond}
 use mathlib.Core.List.{List, [], ◌∷◌}
 use Prim.Native.Nat.{ℕ}
 use types.Run.{OneOf, miss}
 use denote.Enum.Declared.{tag_of}
-use Rattle.protocol.specs.contracts.Action.{the_type as actions}
-use Rattle.protocol.specs.contracts.Kind.{the_type as kinds}
 use Rattle.protocol.specs.contracts.Phase.{the_type as phases}
-use Rattle.protocol.specs.Plan.{plan, action_at, at_root}
+use Rattle.protocol.specs.Plan.{plan, action_at}
 use Rattle.protocol.specs.Record.{roles, record_fine}
-use Rattle.protocol.specs.Walk.{nothing}
 use Rattle.protocol.specs.declared.Kind.{Kind}
-use Rattle.protocol.specs.declared.Kind.TheVariants.{Lookup, Insert, Remove}
+use Rattle.protocol.specs.declared.Kind.TheVariants.{Lookup}
 use Rattle.protocol.specs.declared.Phase.{Phase}
 use Rattle.protocol.specs.declared.Phase.TheVariants.{Walk, OnRouting, New, Two, One, Leaf, UnderData, UnderRouting}
 use Rattle.protocol.specs.declared.Action.{Action}
 use Rattle.protocol.specs.declared.Action.TheVariants.{Visit, Look, Lock, Mark, Link, Take, End, Beyond}
-use Rattle.protocol.specs.declared.Answer.TheVariants.{No}
-use Rattle.protocol.specs.declared.Outcome.TheVariants.{Ends}
+use Rattle.protocol.specs.declared.Outcome.{Outcome}
 use Rattle.protocol.proofs.Together.Wishes.{All}
 use Rattle.plan.proofs.Actions.{all_at}
-use Rattle.locks.specs.contracts.Acted.{the_type as acteds}
 use Rattle.locks.specs.Taking.{after}
-use Rattle.locks.specs.declared.Acted.{Acted}
-use Rattle.locks.specs.declared.Acted.TheVariants.{Done, Denied, Finished, Stopped}
-use Rattle.acting.specs.Acts.{act_on}
-use Rattle.acting.specs.Moves.{then_of, leaves, settle, plan_move, busy_move}
-use Rattle.acting.specs.declared.Moved.TheVariants.{To}
-
-pub act_other : (ws : List ℕ) (key : ℕ) (a : Action) → OneOf (0 ∷ 1 ∷ 7 ∷ []) (tag_of actions a) → after (Stopped 6) ws ≡ act_on ws key a
-unfolding act_on
-act_other ws key (Visit at prev before side up) t = refl
-act_other ws key (Look this prev side before up) t = refl
-act_other ws key (Lock slot which write state links) t = absurd (miss (0 ∷ 1 ∷ 7 ∷ []) 2 tt t)
-act_other ws key (Mark slot to) t = absurd (miss (0 ∷ 1 ∷ 7 ∷ []) 3 tt t)
-act_other ws key (Link slot side to) t = absurd (miss (0 ∷ 1 ∷ 7 ∷ []) 4 tt t)
-act_other ws key (Take prev side) t = absurd (miss (0 ∷ 1 ∷ 7 ∷ []) 5 tt t)
-act_other ws key End t = absurd (miss (0 ∷ 1 ∷ 7 ∷ []) 6 tt t)
-act_other ws key Beyond t = refl
-
-pub then_other : (a : Acted) → OneOf (0 ∷ 1 ∷ 3 ∷ []) (tag_of acteds a) → To at_root ≡ then_of a
-then_other Done t = refl
-then_other Denied t = refl
-then_other (Finished x) t = absurd (miss (0 ∷ 1 ∷ 3 ∷ []) 2 tt t)
-then_other (Stopped k) t = refl
-
-pub settle_other : (p : Phase) (a : Acted) (ws : List ℕ) → OneOf (1 ∷ 2 ∷ []) (tag_of acteds a) → leaves ws p (then_of a) ≡ settle p a ws
-unfolding settle
-settle_other p Done ws t = absurd (miss (1 ∷ 2 ∷ []) 0 tt t)
-settle_other p Denied ws t = refl
-settle_other p (Finished x) ws t = refl
-settle_other p (Stopped k) ws t = absurd (miss (1 ∷ 2 ∷ []) 3 tt t)
+use Rattle.std.specs.Prelude.{Result, Ok, Err}
+use Rattle.refusal.specs.declared.Refusal.{Refusal}
+use Rattle.refusal.specs.declared.Refusal.TheVariants.{Damaged}
+use Rattle.acting.specs.Moves.{moved_of, plan_move, busy_move}
+use Rattle.acting.specs.declared.Moved.{Moved}
 
 pub move_other : (ws : List ℕ) (kind : Kind) (key : ℕ) (p : Phase) → OneOf (1 ∷ 2 ∷ 3 ∷ 4 ∷ 6 ∷ 7 ∷ []) (tag_of phases p) → plan_move ws kind key p ≡ busy_move ws kind key p
 unfolding busy_move
@@ -64,13 +35,6 @@ move_other ws kind key (One this prev side child toward done) t = refl
 move_other ws kind key (Leaf this prev side before up) t = absurd (miss (1 ∷ 2 ∷ 3 ∷ 4 ∷ 6 ∷ 7 ∷ []) 5 tt t)
 move_other ws kind key (UnderData this prev side done) t = refl
 move_other ws kind key (UnderRouting this prev side before up other done) t = refl
-
--- the kinds that `_` leaves after Insert
-pub nothing_other : (kind : Kind) (at : ℕ) (side : Bool) → OneOf (0 ∷ 2 ∷ []) (tag_of kinds kind) → Ends No ≡ nothing kind at side
-unfolding nothing
-nothing_other Lookup at side t = refl
-nothing_other Insert at side t = absurd (miss (0 ∷ 2 ∷ []) 1 tt t)
-nothing_other Remove at side t = refl
 
 -- The actions of a plan that neither walks nor looks
 
@@ -114,3 +78,13 @@ pub any_work : (ws : List ℕ) (kind : Kind) (key at prev before : ℕ) (side up
     → record_fine ws Lookup key (Walk at prev before true true) ≡ record_fine ws kind key (Walk at prev before side up)
 unfolding record_fine roles
 any_work ws kind key at prev before side up = refl
+
+-- what a look at a slot comes to, handed on as a move, or as the refusal
+abbrev pub handed : Result Outcome Refusal → Result Moved Refusal
+handed (Ok o) = Ok (moved_of o)
+handed (Err e) = Err e
+
+pub looks : (b : Bool) (o : Outcome) (r : Result Outcome Refusal) (ws : List ℕ) → cond b (Ok o) (Err Damaged) ≡ r
+    → after (handed r) ws ≡ cond b (after (Ok (moved_of o)) ws) (after (Err Damaged) ws)
+looks true o r ws h = sym (ap (λ x. after (handed x) ws) h)
+looks false o r ws h = sym (ap (λ x. after (handed x) ws) h)

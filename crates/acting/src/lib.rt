@@ -12,22 +12,22 @@ ghost use Rattle.acting.specs.Moves.{moved_of, then_of, leaves, settle, plan_mov
 
 use locks::Acted;
 use protocol::{Action, Answer, Kind, Outcome, Phase, Work};
+use refusal::Refusal;
 use table::DATA;
 
 pub mod quick;
 mod walking;
 
-// What a step comes to: the phase has one more action done, or is another; the work is over, with an answer; or the step is
-// refused, and all stays.
-#[derive(Clone, Copy)]
+// What a step that is not refused comes to: the phase has one more action done, or is another; or the work is over, with an answer.
+#[derive(Clone, Copy, Debug, PartialEq, Eq, Hash)]
 pub enum Moved {
     On,
     To(Phase),
     Over(Answer),
-    Stays(u64),
 }
 
 // Slot f gets key and state data, and is linked.
+#[tactic(auto, unfolding(protocol::specs::Stores::taken))]
 fn put_frame(words: &mut [u64], f: u64, key: u64, prev: u64, side: bool)
     ensures { words.new ≡ set_link (taken words.old f key) prev side f }
 {
@@ -37,22 +37,23 @@ fn put_frame(words: &mut [u64], f: u64, key: u64, prev: u64, side: bool)
 }
 
 // A new frame's slot: the lowest that is free gets key and state data, and is linked.
-fn take(words: &mut [u64], key: u64, prev: u64, side: bool) -> Acted
+#[tactic(auto, using(protocol::proofs::LockLaws::lowest_free_lem), unfolding(crate::specs::Acts::takes))]
+fn take(words: &mut [u64], key: u64, prev: u64, side: bool) -> Result<Acted, Refusal>
     ensures { (result ≡ (takes words.old key prev side (lowest_fit words.old)).said) × (words.new ≡ (takes words.old key prev side (lowest_fit words.old)).words) }
 {
-    let f = table::free::lowest_free(words);
-    if f == 0 {
-        return Acted::Finished(Answer::Full);
-    }
+    let Some(f) = table::free::lowest_free(words) else {
+        return Ok(Acted::Finished(Answer::Full));
+    };
     if !table::zero_pair(words, f) {
-        return Acted::Stopped(6);
+        return Err(Refusal::Damaged);
     }
     put_frame(words, f, key, prev, side);
-    Acted::Done
+    Ok(Acted::Done)
 }
 
 // An action by itself: a lock, a store, or the end.
-fn act_on(words: &mut [u64], key: u64, a: Action) -> Acted
+#[tactic(auto, unfolding(crate::specs::Acts::act_on))]
+fn act_on(words: &mut [u64], key: u64, a: Action) -> Result<Acted, Refusal>
     ensures { (result ≡ (act_on words.old key a).said) × (words.new ≡ (act_on words.old key a).words) }
 {
     match a {
@@ -61,71 +62,74 @@ fn act_on(words: &mut [u64], key: u64, a: Action) -> Acted
         ),
         Action::Mark(slot, to) => {
             table::set_state(words, slot, to);
-            Acted::Done
+            Ok(Acted::Done)
         }
         Action::Link(slot, side, to) => {
             table::set_link(words, slot, side, to);
-            Acted::Done
+            Ok(Acted::Done)
         }
         Action::Take(prev, side) => take(words, key, prev, side),
-        Action::End => Acted::Finished(Answer::Yes),
-        _ => Acted::Stopped(6),
+        Action::End => Ok(Acted::Finished(Answer::Yes)),
+        Action::Visit(..) | Action::Look(..) | Action::Beyond => Err(Refusal::Damaged),
     }
 }
 
 // A work that is over or begins again gives up its locks.
-fn give_up(words: &mut [u64], phase: Phase, acted: Acted) -> Moved
+#[tactic(auto, unfolding(crate::specs::Moves::leaves, locks::specs::Taking::given_up))]
+fn give_up(words: &mut [u64], phase: Phase, acted: Acted) -> Result<Moved, Refusal>
     ensures { (result ≡ (leaves words.old phase (then_of acted)).said) × (words.new ≡ (leaves words.old phase (then_of acted)).words) }
 {
     let done = plan::done_of(phase);
     if !locks::give_up(words, phase, done) {
-        return Moved::Stays(6);
+        return Err(Refusal::Damaged);
     }
     match acted {
-        Acted::Finished(answer) => Moved::Over(answer),
-        _ => Moved::To(plan::at_root()),
+        Acted::Finished(answer) => Ok(Moved::Over(answer)),
+        Acted::Done | Acted::Denied => Ok(Moved::To(plan::at_root())),
     }
 }
 
-// What becomes of the phase: one more action is done, or the locks are given up, or the step is refused.
-fn settle_on(words: &mut [u64], phase: Phase, acted: Acted) -> Moved
+// What becomes of the phase: one more action is done, or the locks are given up.
+#[tactic(auto, unfolding(crate::specs::Moves::settle))]
+fn settle_on(words: &mut [u64], phase: Phase, acted: Acted) -> Result<Moved, Refusal>
     ensures { (result ≡ (settle phase acted words.old).said) × (words.new ≡ (settle phase acted words.old).words) }
 {
     match acted {
-        Acted::Done => Moved::On,
-        Acted::Stopped(n) => Moved::Stays(n),
-        _ => give_up(words, phase, acted),
+        Acted::Done => Ok(Moved::On),
+        Acted::Denied | Acted::Finished(_) => give_up(words, phase, acted),
     }
 }
 
 // Is the pair that the action reads or stores to undamaged?
+#[tactic(auto, unfolding(protocol::specs::Step::reads_fine))]
 fn reads_fine(words: &[u64], a: Action) -> bool
     ensures { result ≡ reads_fine words.now a }
 {
     match a {
-        Action::Visit(at, ..) => table::pair_fine(words, at),
-        Action::Look(_, prev, ..) => table::pair_fine(words, prev),
-        Action::Lock(slot, ..) => table::pair_fine(words, slot),
-        Action::Mark(slot, _) => table::pair_fine(words, slot),
-        Action::Link(slot, ..) => table::pair_fine(words, slot),
-        Action::Take(prev, _) => table::pair_fine(words, prev),
+        Action::Visit(slot, ..)
+        | Action::Look(_, slot, ..)
+        | Action::Lock(slot, ..)
+        | Action::Mark(slot, _)
+        | Action::Link(slot, ..)
+        | Action::Take(slot, _) => table::pair_fine(words, slot),
         Action::End => true,
         Action::Beyond => false,
     }
 }
 
 // Rule 6 and the action that is due.
-fn plan_step(words: &mut [u64], kind: Kind, key: u64, phase: Phase) -> Moved
+#[tactic(auto, using(refusal::proofs::SaidLaws::handed_on), unfolding(crate::specs::Moves::plan_move, crate::specs::Moves::settle_act, crate::specs::Moves::settle_said))]
+fn plan_step(words: &mut [u64], kind: Kind, key: u64, phase: Phase) -> Result<Moved, Refusal>
     ensures { (result ≡ (plan_move words.old kind key phase).said) × (words.new ≡ (plan_move words.old kind key phase).words) }
 {
     if !(moment::legal(key) & (table::busy(words) != 0)) {
-        return Moved::Stays(6);
+        return Err(Refusal::Damaged);
     }
     let a = plan::due(table::slots(words), kind, phase);
     if !reads_fine(words, a) {
-        return Moved::Stays(6);
+        return Err(Refusal::Damaged);
     }
-    let acted = act_on(words, key, a);
+    let acted = act_on(words, key, a)?;
     settle_on(words, phase, acted)
 }
 
@@ -136,7 +140,6 @@ fn move_of(o: Outcome) -> Moved
     match o {
         Outcome::Goes(p) => Moved::To(p),
         Outcome::Ends(a) => Moved::Over(a),
-        Outcome::Refuses(n) => Moved::Stays(n),
     }
 }
 
@@ -157,7 +160,8 @@ pub fn visited(
 }
 
 // Rule 6 and what the phase does. A walk, which most steps are, asks nothing of the plan.
-fn busy_step(words: &mut [u64], kind: Kind, key: u64, phase: Phase) -> Moved
+#[tactic(auto, using(refusal::proofs::SaidLaws::handed_on, crate::proofs::ActLaws::any_work, crate::proofs::ActLaws::move_other, crate::proofs::ActLaws::looks), unfolding(crate::specs::Moves::busy_move))]
+fn busy_step(words: &mut [u64], kind: Kind, key: u64, phase: Phase) -> Result<Moved, Refusal>
     ensures { (result ≡ (busy_move words.old kind key phase).said) × (words.new ≡ (busy_move words.old kind key phase).words) }
 {
     match phase {
@@ -167,27 +171,34 @@ fn busy_step(words: &mut [u64], kind: Kind, key: u64, phase: Phase) -> Moved
             before,
             side,
             up,
-        } => move_of(walking::visit_at(words, kind, key, at, prev, before, side, up)),
+        } => {
+            let came = walking::visit_at(words, kind, key, at, prev, before, side, up)?;
+            Ok(move_of(came))
+        }
         Phase::Leaf {
             this,
             prev,
             side,
             before,
             up,
-        } => move_of(walking::look_at(words, kind, key, this, prev, side, before, up)),
+        } => {
+            let came = walking::look_at(words, kind, key, this, prev, side, before, up)?;
+            Ok(move_of(came))
+        }
         _ => plan_step(words, kind, key, phase),
     }
 }
 
 // Rules 1 and 2 before.
-pub fn step_on(words: &mut [u64], work: Work, key: u64, phase: Phase) -> Moved
+#[tactic(auto, unfolding(crate::specs::Moves::step_move, crate::specs::Moves::work_move))]
+pub fn step_on(words: &mut [u64], work: Work, key: u64, phase: Phase) -> Result<Moved, Refusal>
     ensures { (result ≡ (step_move words.old work key phase).said) × (words.new ≡ (step_move words.old work key phase).words) }
 {
     if !table::table_fine(words) {
-        return Moved::Stays(1);
+        return Err(Refusal::Table);
     }
     match work {
-        Work::Idle => Moved::Stays(2),
+        Work::Idle => Err(Refusal::State),
         Work::Busy(kind) => busy_step(words, kind, key, phase),
     }
 }

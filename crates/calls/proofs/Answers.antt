@@ -6,7 +6,7 @@ use mathlib.Core.Logic.{⊎_elim}
 use mathlib.Core.List.{List}
 use Prim.Native.Nat.{ℕ}
 use lib.Dec.{eqb}
-use Rattle.moment.specs.Said.{Said, gives, refuses}
+use Rattle.refusal.specs.Said.{Said, gives, refuses}
 use Rattle.protocol.specs.Says.{Verdict, going, yes, no, full}
 use Rattle.protocol.specs.Plan.{action_of}
 use Rattle.protocol.specs.Step.{step_of}

@@ -4,7 +4,7 @@ use mathlib.Core.Path.{◌≡◌, refl, ap, ◌∙◌}
 use mathlib.Core.Bool.{Bool, true, false}
 use mathlib.Core.List.{List}
 use Prim.Native.Nat.{ℕ}
-use Rattle.moment.specs.Said.{Said, refuses}
+use Rattle.refusal.specs.Said.{Said, refuses}
 use Rattle.protocol.specs.Step.{Call, refused, step_of}
 use Rattle.protocol.specs.Calls.{start_of, withdraw_of}
 use Rattle.protocol.specs.declared.Kind.{Kind}

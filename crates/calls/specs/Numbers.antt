@@ -1,7 +1,7 @@
 -- The numbers that answers have at the boundary: document 01's where it gives one, and 0, 16, 17 for what it gives none.
 -- Assumes nothing.
 use Rattle.std.specs.Prelude.{Bool, true, false, ℕ}
-use Rattle.moment.specs.Said.{Said, gives, refuses}
+use Rattle.refusal.specs.Said.{Said, gives, refuses}
 use Rattle.protocol.specs.Says.{Verdict, going, yes, no, full}
 
 -- a step: 0 going, 16 yes, 17 no, 5 Full, or the refusal's number

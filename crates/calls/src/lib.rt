@@ -3,60 +3,64 @@
 #![tactic(auto)]
 
 ghost use Rattle.std.specs.Prelude.{◌≡◌, true, get_or};
-ghost use Rattle.table.specs.Rules.{reply_says};
+ghost use Rattle.refusal.specs.Said.{said, number as refusal_number};
 ghost use Rattle.protocol.specs.Step.{step_of};
 ghost use Rattle.protocol.specs.Calls.{start_of, withdraw_of};
 ghost use Rattle.calls.specs.Numbers.{verdict_number, number};
-ghost use Rattle.records.specs.Records.{worker_of, put_record, is_walk};
-ghost use Rattle.worker.specs.Moving.{move_says, ends, walk_fine, walk_to};
-ghost use Rattle.calls.specs.Workers.{unread_number, Comes, put_moved, kind_at, OpensAtOnce};
+ghost use Rattle.records.specs.Records.{worker_of, put_record};
+ghost use Rattle.worker.specs.Moving.{move_says};
+ghost use Rattle.calls.specs.Workers.{unread_number, Comes, put_moved, kind_at, OpensAtOnce, WalkEnds};
 
 use acting::Moved;
 use numbers::{FINE, NO, YES};
 use protocol::{Kind, Replied, Work, Worker};
-use records::Lent;
+use records::numbers::{INSERT, LOOKUP};
+use refusal::Refusal;
 use table::DATA;
-use worker::ENDS;
 
 pub mod numbers;
 mod plans;
 
-// The number where the words are no record.
-fn unread(words: &[u64]) -> u64
-    ensures { result ≡ unread_number words.now }
+// The refusal where the words are no record.
+#[tactic(auto, unfolding(crate::specs::Workers::unread_number))]
+fn unread(words: &[u64]) -> Refusal
+    ensures { refusal_number result ≡ unread_number words.now }
 {
-    if table::table_fine(words) { 6 } else { 1 }
+    if table::table_fine(words) {
+        Refusal::Damaged
+    } else {
+        Refusal::Table
+    }
 }
 
 // The record goes back into its words; the reply's number.
 fn put_reply(lent: &mut [u64], r: Replied) -> u64
-    ensures { (result ≡ number (reply_says r.reply)) × (lent.new ≡ put_record lent.old r.worker) }
+    ensures { (result ≡ number (said r.reply)) × (lent.new ≡ put_record lent.old r.worker) }
 {
-    let after = r.worker;
-    let reply = r.reply;
-    records::put(lent, after);
-    numbers::of_reply(reply)
+    records::put(lent, r.worker);
+    numbers::of_reply(r.reply)
 }
 
 // The record is moved on in its words as the step reports; returns the number of its answer. A step of the plan that goes on writes one word,
 // a refused one none.
-fn put_moved(lent: &mut [u64], work: Work, key: u64, m: Moved) -> u64
+#[tactic(auto, unfolding(crate::specs::Workers::put_moved))]
+fn put_moved(lent: &mut [u64], work: Work, key: u64, m: Result<Moved, Refusal>) -> u64
     ensures { (result ≡ verdict_number (move_says m)) × (lent.new ≡ put_moved lent.old work key m) }
 {
     match m {
-        Moved::On => {
+        Ok(Moved::On) => {
             records::count_on(lent);
             FINE
         }
-        Moved::To(phase) => {
+        Ok(Moved::To(phase)) => {
             records::put(lent, Worker { work, key, phase });
             FINE
         }
-        Moved::Over(answer) => {
+        Ok(Moved::Over(answer)) => {
             records::put_idle(lent);
-            numbers::of_answer(answer)
+            numbers::of_answer(Ok(answer))
         }
-        Moved::Stays(n) => n,
+        Err(e) => e.number(),
     }
 }
 
@@ -74,14 +78,11 @@ fn opens_quick(words: &[u64], lent: &[u64]) -> bool
 fn record_start(words: &mut [u64], lent: &mut [u64], kind: Kind, key: u64) -> u64
     ensures { Comes number words.old lent.old (start_of words.old (worker_of lent.old) kind key) result lent.new words.new }
 {
-    let r = records::read(lent);
-    match r {
-        Lent::Nothing => unread(words),
-        Lent::Record(w) => {
-            let begun = worker::start(words, w, kind, key);
-            put_reply(lent, begun)
-        }
-    }
+    let Some(w) = records::read(lent) else {
+        return unread(words).number();
+    };
+    let begun = worker::start(words, w, kind, key);
+    put_reply(lent, begun)
 }
 
 // Begins a work of that kind on a key; or 1, 6 (no record), 2, 3, 4. A record that ended its work, or never had one, is not read.
@@ -90,7 +91,7 @@ pub fn start(words: &mut [u64], lent: &mut [u64], kind: Kind, key: u64) -> u64
 {
     if opens_quick(words, lent) {
         if !moment::legal(key) {
-            return 3;
+            return Refusal::Range.number();
         }
         worker::seats::take_seat(words);
         records::put_started(lent, kind, key);
@@ -103,27 +104,22 @@ pub fn start(words: &mut [u64], lent: &mut [u64], kind: Kind, key: u64) -> u64
 fn record_step(words: &mut [u64], lent: &mut [u64]) -> u64
     ensures { Comes verdict_number words.old lent.old (step_of words.old (worker_of lent.old)) result lent.new words.new }
 {
-    let r = records::read(lent);
-    match r {
-        Lent::Nothing => unread(words),
-        Lent::Record(w) => {
-            let work = w.work;
-            let key = w.key;
-            let phase = w.phase;
-            let m = worker::move_on(words, work, key, phase);
-            put_moved(lent, work, key, m)
-        }
-    }
+    let Some(w) = records::read(lent) else {
+        return unread(words).number();
+    };
+    let m = worker::move_on(words, w.work, w.key, w.phase);
+    put_moved(lent, w.work, w.key, m)
 }
 
 // The kind of work that a busy record's first word says.
+#[tactic(auto, unfolding(crate::specs::Workers::kind_at))]
 fn kind_of(n: u64) -> Kind
     ensures { result ≡ kind_at n }
 {
-    if n == 1 {
+    if n == LOOKUP {
         return Kind::Lookup;
     }
-    if n == 2 {
+    if n == INSERT {
         return Kind::Insert;
     }
     Kind::Remove
@@ -131,7 +127,8 @@ fn kind_of(n: u64) -> Kind
 
 // The end of a lookup of which all is judged: yes exactly on a data slot of the key.
 fn lookup_end(words: &mut [u64], lent: &mut [u64]) -> u64
-    requires { (is_walk lent.old ≡ true) × (get_or lent.old 0 0 ≡ 1) × (walk_fine words.old (get_or lent.old 1 0) (get_or lent.old 3 0) (get_or lent.old 4 0) (get_or lent.old 6 0) ≡ true) × (walk_to words.old (get_or lent.old 1 0) (get_or lent.old 3 0) ≡ ends) }
+    requires ends { WalkEnds words.old lent.old }
+    requires looks { get_or lent.old 0 0 ≡ 1 }
     ensures { Comes verdict_number words.old lent.old (step_of words.old (worker_of lent.old)) result lent.new words.new }
 {
     let at = lent[3];
@@ -143,10 +140,10 @@ fn lookup_end(words: &mut [u64], lent: &mut [u64]) -> u64
 
 // The last step of a walk of which all is judged.
 fn walk_end(words: &mut [u64], lent: &mut [u64]) -> u64
-    requires { (is_walk lent.old ≡ true) × (walk_fine words.old (get_or lent.old 1 0) (get_or lent.old 3 0) (get_or lent.old 4 0) (get_or lent.old 6 0) ≡ true) × (walk_to words.old (get_or lent.old 1 0) (get_or lent.old 3 0) ≡ ends) }
+    requires { WalkEnds words.old lent.old }
     ensures { Comes verdict_number words.old lent.old (step_of words.old (worker_of lent.old)) result lent.new words.new }
 {
-    if lent[0] == 1 {
+    if lent[0] == LOOKUP {
         return lookup_end(words, lent);
     }
     let kind = kind_of(lent[0]);
@@ -161,7 +158,7 @@ fn walk_end(words: &mut [u64], lent: &mut [u64]) -> u64
         lent[5] == 0,
         lent[7] == 0,
     );
-    put_moved(lent, Work::Busy(kind), key, m)
+    put_moved(lent, Work::Busy(kind), key, Ok(m))
 }
 
 // One step of any words: of a plan's phase, of a walk that is judged exactly, else of the record that they are.
@@ -176,20 +173,21 @@ fn other_step(words: &mut [u64], lent: &mut [u64]) -> u64
         return record_step(words, lent);
     }
     if !table::table_fine(words) {
-        return 1;
+        return Refusal::Table.number();
     }
     let key = lent[1];
     let at = lent[3];
     if !worker::walk_fine(words, key, at, lent[4], lent[6]) {
-        return 6;
+        return Refusal::Damaged.number();
     }
-    let next = worker::walk_to(words, key, at);
-    if next == ENDS {
-        return walk_end(words, lent);
+    match worker::walk_to(words, key, at) {
+        None => walk_end(words, lent),
+        Some(next) => {
+            let left = key < table::key(words, at);
+            records::walk_on(lent, next, left);
+            FINE
+        }
     }
-    let left = key < table::key(words, at);
-    records::walk_on(lent, next, left);
-    FINE
 }
 
 // One step: 0 going, 16 yes, 17 no, 5 Full; or 1, 6 (no record), 2, 6, 9. A walk that goes on, which most steps are, is moved on in
@@ -206,13 +204,12 @@ pub fn step(words: &mut [u64], lent: &mut [u64]) -> u64
     }
     let key = lent[1];
     let at = lent[3];
-    let next = worker::next_slot(words, key, at, lent[4], lent[6]);
-    if next == 0 {
+    if !worker::walk_quick(words, key, at, lent[4], lent[6]) {
         return other_step(words, lent);
     }
-    if next == ENDS {
+    let Some(next) = worker::walk_to(words, key, at) else {
         return walk_end(words, lent);
-    }
+    };
     records::walk_on(lent, next, key < table::key(words, at));
     FINE
 }
@@ -221,12 +218,9 @@ pub fn step(words: &mut [u64], lent: &mut [u64]) -> u64
 pub fn withdraw(words: &mut [u64], lent: &mut [u64]) -> u64
     ensures { Comes number words.old lent.old (withdraw_of words.old (worker_of lent.old)) result lent.new words.new }
 {
-    let r = records::read(lent);
-    match r {
-        Lent::Nothing => unread(words),
-        Lent::Record(w) => {
-            let left = worker::withdraw(words, w);
-            put_reply(lent, left)
-        }
-    }
+    let Some(w) = records::read(lent) else {
+        return unread(words).number();
+    };
+    let left = worker::withdraw(words, w);
+    put_reply(lent, left)
 }

@@ -3,7 +3,7 @@
 -- document says. A row of a run has what each step answers (going 0, yes 1, no 2, Full 5), then the words.
 -- Assumes nothing.
 use Rattle.std.specs.Prelude.{◌≡◌, cond, List, [], ◌∷◌, ◌++◌, ℕ, ltb, length}
-use Rattle.moment.specs.Said.{Said, gives, refuses}
+use Rattle.refusal.specs.Said.{Said, gives, refuses}
 use Rattle.moment.specs.Key.{packs}
 use Rattle.moment.specs.declared.Moment.{Moment}
 use Rattle.protocol.specs.declared.Kind.TheVariants.{Lookup, Insert, Remove}
@@ -34,19 +34,7 @@ text t = fields (reads t 0 (length t))
 
 -- the key that the sorting program gives a text: hundredth 0, and camera 1 here; or the number of the refusal
 abbrev pub frame : Said Moment → ℕ → Said ℕ
-frame (gives m) n =
-    packs
-    (record {
-      year = m.year;
-      month = m.month;
-      day = m.day;
-      hour = m.hour;
-      minute = m.minute;
-      second = m.second;
-      hundredth = 0;
-      camera = 1;
-      number = n;
-    })
+frame (gives m) n = packs (record { moment = m; hundredth = 0; camera = 1; number = n })
 frame (refuses r) n = refuses r
 
 abbrev pub number : Said ℕ → ℕ

@@ -1,7 +1,7 @@
 -- The light table's runs: a table, workers on it, and what each step answers.
 -- Assumes nothing.
 use Rattle.std.specs.Prelude.{List, [], ◌∷◌, ◌++◌, ℕ, zero, suc, ◌+◌, replicate}
-use Rattle.moment.specs.Said.{Said, gives, refuses}
+use Rattle.refusal.specs.Said.{Said, gives, refuses}
 use Rattle.table.specs.Pair.{word_of}
 use Rattle.table.specs.Rules.{fresh_words}
 use Rattle.protocol.specs.Says.{Verdict, going, yes, no, full}

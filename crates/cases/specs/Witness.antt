@@ -1,7 +1,7 @@
 -- Inputs that meet the premises of the theorems: computed.
 -- Assumes nothing.
 use Rattle.std.specs.Prelude.{◌≡◌, Bool, true, false, List, [], ◌∷◌, ℕ, ◌+◌}
-use Rattle.moment.specs.Said.{Said, gives, refuses}
+use Rattle.refusal.specs.Said.{Said, gives, refuses}
 use Rattle.table.specs.Pair.{zero_pair}
 use Rattle.table.specs.Rules.{table_fine, pair_fine}
 use Rattle.protocol.specs.declared.Kind.{Kind}

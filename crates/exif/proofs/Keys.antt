@@ -11,18 +11,7 @@ use Rattle.moment.proofs.Packing.{unpack_pack, packed_legal}
 
 -- the first frame of camera 0 at a moment
 abbrev frame : Moment → Fields
-frame m =
-    record {
-      year = m.year;
-      month = m.month;
-      day = m.day;
-      hour = m.hour;
-      minute = m.minute;
-      second = m.second;
-      hundredth = 0;
-      camera = 0;
-      number = 0;
-    }
+frame m = record { moment = m; hundredth = 0; camera = 0; number = 0 }
 
 in_range_lem : (m : Moment) → moment_exists m ≡ true → in_range (frame m) ≡ true
 unfolding in_range moment_of

@@ -10,7 +10,7 @@ use borrow.Author.Tests.{ltb-true, ltb-false, le-ltb}
 use Rattle.moment.proofs.Tests.{either}
 use lib.ListN.{length, take, drop}
 use mathlib.Core.List.{List}
-use Rattle.moment.specs.Said.{Said, refuses}
+use Rattle.refusal.specs.Said.{Said, refuses}
 use Rattle.exif.specs.Parts.{beyond_of, of_part}
 
 neither : (a b : Bool) → (a || b) ≡ false → (a ≡ false) × (b ≡ false)

@@ -3,7 +3,7 @@
 use mathlib.Core.Path.{◌≡◌, refl}
 use mathlib.Core.Bool.{true, false, or-true}
 use mathlib.Core.List.{List, ◌++◌}
-use mathlib.Core.Logic.{⊎_elim}
+use mathlib.Core.Logic.{◌⊎◌, inl, inr, ⊎_elim}
 use Prim.Native.Nat.{ℕ, ◌/◌, ◌<◌}
 use native.Mathlib.Omega.{arith}
 use lib.ListN.{get_or}
@@ -16,8 +16,7 @@ use Rattle.exif.specs.Forms.{blank, nul, blank_text, colon_text, digit, one, two
 use Rattle.exif.specs.Reading.{is_digit, two_at, fits_byte, shaped, two_digit_form, blank_hour_form, one_digit_form, two_nuls_form, unknown_of, one_digit_of, form_of, moment_at, moment_in}
 use Rattle.exif.specs.declared.HourForm.{HourForm}
 use Rattle.exif.specs.declared.HourForm.TheVariants.{TwoDigits, BlankAndDigit, OneDigit}
-use Rattle.exif.specs.declared.Form.{Form}
-use Rattle.exif.specs.declared.Form.TheVariants.{Unknown, Told, Other}
+use Rattle.refusal.specs.Said.{Said, gives, refuses}
 use Rattle.exif.proofs.Digits.{small, last_is_digit, two_again, one_again, four_again, two_back, one_back, four_back}
 use Rattle.exif.proofs.Shapes.{clash, each}
 
@@ -46,11 +45,10 @@ said_two_nuls =
     each two_nuls_form (λ t. t ≡ one_digit_hour_two_nuls (moment_in t OneDigit))
     (λ y1 a1 y2 a2 y3 a3 y4 a4 m1 b1 m2 b2 d1 c1 d2 c2 h e n1 f1 n2 f2 s1 g1 s2 g2. simp (four_again, two_again, one_again))
 
--- what a form tells of a text
-abbrev pub Tells : List ℕ → Form → Type 0
-Tells t Unknown = UnknownTime t
-Tells t (Told hour) = HasForm (moment_in t hour) t
-Tells t Other = Unit {0}
+-- what the form of the hour tells of a text, or why there is none
+abbrev pub Tells : List ℕ → Said HourForm → Type 0
+Tells t (gives hour) = HasForm (moment_in t hour) t
+Tells t (refuses n) = ((n ≡ 12) × UnknownTime t) ⊎ (n ≡ 10)
 
 unknown : (t : List ℕ) → unknown_of t ≡ true → UnknownTime t
 unfolding unknown_of
@@ -71,10 +69,10 @@ blank_told t f = blank_and_digit (small (get_or t 12 0)) (said_blank t f)
 pub told : (t : List ℕ) → Tells t (form_of t)
 unfolding form_of
 told t =
-    by_cases (Tells t) (unknown_of t) (unknown t)
+    by_cases (Tells t) (unknown_of t) (λ e. inl (refl, unknown t e))
     (λ _. by_cases (Tells t) (shaped two_digit_form t) (λ f. two_digits (said_two t f))
     (λ _. by_cases (Tells t) (shaped blank_hour_form t) (blank_told t)
-    (λ _. by_cases (Tells t) (one_digit_of t) (one_digit_told t) (λ _. tt))))
+    (λ _. by_cases (Tells t) (one_digit_of t) (one_digit_told t) (λ _. inr refl))))
 
 -- a digit is no blank
 no_blank : (n : ℕ) → fits_byte 32 (digit n) ≡ false
@@ -99,28 +97,28 @@ ends_twice m = simp (last_is_digit, or-true)
 
 -- the text of a moment has its form, and no other
 module _ (m : Moment) where
-  form_two : form_of (two_digit_hour m) ≡ Told TwoDigits
+  form_two : form_of (two_digit_hour m) ≡ gives TwoDigits
   unfolding form_of two_digit_hour shaped fits_byte text four two
   form_two = let fits : shaped two_digit_form (two_digit_hour m) ≡ true = simp last_is_digit in rw (known m (two m.hour) nul, fits)
 
-  form_blank : form_of (blank_hour m) ≡ Told BlankAndDigit
+  form_blank : form_of (blank_hour m) ≡ gives BlankAndDigit
   unfolding form_of blank_hour shaped fits_byte is_digit text four two one
   form_blank =
       let fits : shaped blank_hour_form (blank_hour m) ≡ true = simp last_is_digit in
       rw (known m (blank ++ one m.hour) nul, clash two_digit_form (blank_hour m) 11 refl, fits)
 
   -- an hour of one digit, whatever ends the text
-  form_one_digit : (end : List ℕ) → one_digit_of (text m (one m.hour) end) ≡ true → form_of (text m (one m.hour) end) ≡ Told OneDigit
+  form_one_digit : (end : List ℕ) → one_digit_of (text m (one m.hour) end) ≡ true → form_of (text m (one m.hour) end) ≡ gives OneDigit
   unfolding form_of fits_byte is_digit text four two one
   form_one_digit end e =
       let t = text m (one m.hour) end in
       rw (known m (one m.hour) end, clash two_digit_form t 12 refl, clash blank_hour_form t 11 (no_blank m.hour), e)
 
-  form_one : form_of (one_digit_hour m) ≡ Told OneDigit
+  form_one : form_of (one_digit_hour m) ≡ gives OneDigit
   unfolding one_digit_hour
   form_one = form_one_digit nul (ends_once m)
 
-  form_two_nuls : form_of (one_digit_hour_two_nuls m) ≡ Told OneDigit
+  form_two_nuls : form_of (one_digit_hour_two_nuls m) ≡ gives OneDigit
   unfolding one_digit_hour_two_nuls
   form_two_nuls = form_one_digit (nul ++ nul) (ends_twice m)
 
@@ -169,7 +167,7 @@ module _ (m : Moment) (s : Small m) where
     moment_one end = same m (four_back m.year s.year) (two_back m.month s.month) (two_back m.day s.day) (one_back m.hour h) (two_back m.minute s.minute) (two_back m.second s.second)
 
 -- so the reader finds the moment of each of its texts
-pub found : (m : Moment) (t : List ℕ) → Small m → HasForm m t → (hour : HourForm) × (form_of t ≡ Told hour) × (moment_in t hour ≡ m)
+pub found : (m : Moment) (t : List ℕ) → Small m → HasForm m t → (hour : HourForm) × (form_of t ≡ gives hour) × (moment_in t hour ≡ m)
 unfolding one_digit_hour one_digit_hour_two_nuls
 found m t s (two_digits p) = rw p (TwoDigits, form_two m, moment_two m s)
 found m t s (blank_and_digit h p) = rw p (BlankAndDigit, form_blank m, moment_blank m s h)

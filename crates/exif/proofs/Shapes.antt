@@ -3,10 +3,10 @@
 use mathlib.Core.Path.{◌≡◌, refl, ap}
 use mathlib.Core.Bool.{Bool, true, false, cond, ◌&&◌, and-false, and-eq-true_iff, false≢true}
 use mathlib.Core.List.{List, [], ◌∷◌}
-use Prim.Native.Nat.{ℕ, zero, suc, ◌+◌, ◌-◌, ◌<◌}
+use Prim.Native.Nat.{ℕ, zero, suc, ◌+◌, ◌-◌, ◌≤◌, ◌<◌}
 use native.Mathlib.Numerals.{add-one}
 use native.Mathlib.Omega.{arith}
-use lib.ListN.{length, get_or, drop}
+use lib.ListN.{length, get_or, drop, drop_of_length-le}
 use lib.Seq.{drop-cons}
 use lib.Dec.{eqb}
 use borrow.Author.Tests.{eqb-true}
@@ -18,6 +18,10 @@ pub step : (form t : List ℕ) (i : ℕ) → i < length form → i < length t
     → shaped (drop i form) (drop i t) ≡ (fits_byte (get_or form i 0) (get_or t i 0) && shaped (drop (i + 1) form) (drop (i + 1) t))
 unfolding shaped
 step form t i h g = rw (add-one, drop-cons form i 0 h, drop-cons t i 0 g)
+
+pub ended : (form t : List ℕ) (i : ℕ) → length form ≤ i → length t ≤ i → shaped (drop i form) (drop i t) ≡ true
+unfolding shaped
+ended form t i h g = rw (drop_of_length-le form {i = i} h, drop_of_length-le t {i = i} g)
 
 -- a text of another length does not have the form
 pub other_length : (form t : List ℕ) → (length form ≡ length t → ⊥) → shaped form t ≡ false

@@ -9,7 +9,7 @@ use native.Mathlib.Omega.{arith}
 use lib.Dec.{eqb}
 use lib.ListN.{length, get_or, take, drop}
 use borrow.Author.Tests.{eqb-true, ne_eqb}
-use Rattle.moment.specs.Said.{Said, gives, refuses}
+use Rattle.refusal.specs.Said.{Said, gives, refuses}
 use Rattle.moment.proofs.Tests.{by_cases}
 use Rattle.exif.specs.Forms.{digit, one, two, nul, SubSecondText, absent, of_one_digit, of_two_digits}
 use Rattle.exif.specs.Reading.{digit_of, two_at, fits_byte, shaped}

@@ -3,19 +3,17 @@
 use mathlib.Core.Path.{◌≡◌, refl, ap}
 use mathlib.Core.Bool.{true}
 use mathlib.Core.List.{List}
-use mathlib.Core.Logic.{◌↔◌, ◌⊎◌, inl, inr, ⊎_elim}
+use mathlib.Core.Logic.{◌↔◌, ◌⊎◌, inr, ⊎_elim}
 use Prim.Native.Nat.{ℕ, ◌+◌, ◌≤◌, ◌<◌}
 use native.Mathlib.Omega.{arith}
 use lib.ListN.{length, take, drop}
-use Rattle.moment.specs.Said.{Said, gives, refuses}
+use Rattle.refusal.specs.Said.{Said, gives, refuses}
 use Rattle.moment.specs.Calendar.{moment_exists}
 use Rattle.moment.specs.declared.Moment.{Moment}
 use Rattle.moment.proofs.Tests.{by_cases}
 use Rattle.exif.specs.Forms.{HasForm, CaptureText, UnknownTime, all_blanks, four_colons}
 use Rattle.exif.specs.Reading.{shaped, fits_byte, unknown_of, form_of, moment_in, judges, by_form, reads_text, reads}
 use Rattle.exif.specs.declared.HourForm.{HourForm}
-use Rattle.exif.specs.declared.Form.{Form}
-use Rattle.exif.specs.declared.Form.TheVariants.{Unknown, Told, Other}
 use Rattle.exif.proofs.Parts.{part_beyond, within_part}
 use Rattle.exif.proofs.Reading.{Tells, told, small_moment, found}
 
@@ -28,17 +26,16 @@ judged : (t : List ℕ) (m : Moment) → HasForm m t → Means t (judges m)
 unfolding judges
 judged t m f = by_cases (Means t) (moment_exists m) (λ e. record { exists = e; form = f }) (λ _. inr refl)
 
-by_form_lem : (t : List ℕ) (f : Form) → Tells t f → Means t (by_form t f)
-by_form_lem t Unknown u = inl (refl, u)
-by_form_lem t (Told hour) f = judged t (moment_in t hour) f
-by_form_lem t Other _ = inr refl
+by_form_lem : (t : List ℕ) (f : Said HourForm) → Tells t f → Means t (by_form t f)
+by_form_lem t (gives hour) f = judged t (moment_in t hour) f
+by_form_lem t (refuses n) u = u
 
 means : (t : List ℕ) → Means t (reads_text t)
 unfolding reads_text
 means t = by_form_lem t (form_of t) (told t)
 
 -- a text of a form whose moment exists is read
-read_as : (m : Moment) (t : List ℕ) (hour : HourForm) → moment_exists m ≡ true → form_of t ≡ Told hour → moment_in t hour ≡ m → reads_text t ≡ gives m
+read_as : (m : Moment) (t : List ℕ) (hour : HourForm) → moment_exists m ≡ true → form_of t ≡ gives hour → moment_in t hour ≡ m → reads_text t ≡ gives m
 unfolding reads_text judges
 read_as m t hour e f g = simp (f, g, e)
 

@@ -8,7 +8,9 @@ use Prim.Native.Nat.{ℕ, ◌+◌, ◌-◌, ◌≤◌, ◌<◌}
 use native.Mathlib.Omega.{arith}
 use lib.ListN.{length, get_or, take, drop, length-append, length-drop, get_or-append}
 use lib.Seq.{length-take-le, take_at, drop_at, get_or-append-add, get_or-take, get_or-drop}
-use Rattle.moment.specs.Said.{gives, refuses}
+use Rattle.std.specs.Prelude.{Result}
+use Rattle.refusal.specs.Said.{gives, refuses}
+use Rattle.refusal.specs.declared.Refusal.{Refusal}
 use Rattle.moment.specs.Calendar.{moment_exists}
 use Rattle.moment.specs.Key.{moment_of, fields_of, in_range, legal_of}
 use Rattle.moment.specs.declared.Moment.{Moment}
@@ -17,7 +19,6 @@ use Rattle.exif.specs.Forms.{two, four, text, two_digit_hour, two_digits}
 use Rattle.exif.specs.Parts.{beyond_of}
 use Rattle.exif.specs.Reading.{reads_text, reads}
 use Rattle.exif.specs.Writing.{put_text, writes, leaves, written_says}
-use Rattle.exif.specs.declared.Written.{Written}
 use Rattle.exif.proofs.Parts.{within, beyond_iff, not_beyond}
 use Rattle.exif.proofs.Texts.{read_iff, within_read}
 use Rattle.exif.proofs.Keys.{key_of_moment}
@@ -155,6 +156,6 @@ every_other_byte buffer place key after e =
     (same_length buffer place key after w, λ i. rw w.is (⊎_elim (put_before buffer place _ w.room (twenty _) i) (put_after buffer place _ w.room (twenty _) i)))
 
 -- A refusal leaves the buffer as it was: whatever the writer's promise allows as an answer r and a buffer `after` with it.
-pub refusal_leaves : (buffer : List ℕ) (place key : ℕ) (r : Written) (after : List ℕ) (n : ℕ) → written_says r after ≡ writes buffer place key
+pub refusal_leaves : (buffer : List ℕ) (place key : ℕ) (r : Result Unit Refusal) (after : List ℕ) (n : ℕ) → written_says r after ≡ writes buffer place key
     → after ≡ leaves (writes buffer place key) buffer → written_says r after ≡ refuses n → after ≡ buffer
 refusal_leaves buffer place key r after n answers holds e = rw (sym answers, e) at holds

@@ -1,7 +1,7 @@
 -- Parts of a block: place and length are given, and are any numbers.
 -- Assumes nothing.
 use Rattle.std.specs.Prelude.{Bool, cond, ◌||◌, List, ℕ, ◌-◌, ltb, length, take, drop}
-use Rattle.moment.specs.Said.{Said, refuses}
+use Rattle.refusal.specs.Said.{Said, refuses}
 
 -- whether a part lies beyond a block of this size
 unfoldable pub beyond_of : ℕ → ℕ → ℕ → Bool

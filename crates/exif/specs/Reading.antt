@@ -1,17 +1,13 @@
 -- What the reader of capture texts does. `proofs/Texts.antt` shows that it accepts just the texts of Forms.antt.
 -- Assumes nothing.
 use Rattle.std.specs.Prelude.{Bool, true, false, cond, ◌&&◌, ◌||◌, List, [], ◌∷◌, ◌++◌, ℕ, ◌+◌, ◌-◌, ◌*◌, leb, eqb, get_or}
-use Rattle.moment.specs.Said.{Said, gives, refuses}
+use Rattle.refusal.specs.Said.{Said, gives, refuses}
 use Rattle.moment.specs.Calendar.{moment_exists}
 use Rattle.moment.specs.declared.Moment.{Moment}
 use Rattle.exif.specs.Parts.{of_part}
 use Rattle.exif.specs.Forms.{colon, blank, nul, blank_text, colon_text}
 use Rattle.exif.specs.declared.HourForm.{HourForm}
 use Rattle.exif.specs.declared.HourForm.TheVariants.{TwoDigits, BlankAndDigit, OneDigit}
-use Rattle.exif.specs.declared.Form.{Form}
-use Rattle.exif.specs.declared.Form.TheVariants.{Unknown, Told, Other}
-use Rattle.exif.specs.declared.TextRead.{TextRead}
-use Rattle.exif.specs.declared.TextRead.TheVariants.{Moment as SaysMoment, Refused}
 
 -- whether a byte is a digit
 unfoldable pub is_digit : ℕ → Bool
@@ -66,13 +62,13 @@ unknown_of t = shaped blank_text t || shaped colon_text t
 unfoldable pub one_digit_of : List ℕ → Bool
 one_digit_of t = shaped one_digit_form t || shaped two_nuls_form t
 
--- which form a text has; the unknown time comes first
-unfoldable pub form_of : List ℕ → Form
+-- how the hour is written; 12 for an unknown time, which comes first, and 10 for a text of no form
+unfoldable pub form_of : List ℕ → Said HourForm
 form_of t =
-    cond (unknown_of t) Unknown
-    (cond (shaped two_digit_form t) (Told TwoDigits)
-    (cond (shaped blank_hour_form t) (Told BlankAndDigit)
-    (cond (one_digit_of t) (Told OneDigit) Other)))
+    cond (unknown_of t) (refuses 12)
+    (cond (shaped two_digit_form t) (gives TwoDigits)
+    (cond (shaped blank_hour_form t) (gives BlankAndDigit)
+    (cond (one_digit_of t) (gives OneDigit) (refuses 10))))
 
 -- the six fields of a text, its hour given, with :MM:SS at a place
 unfoldable pub moment_at : List ℕ → ℕ → ℕ → Moment
@@ -96,11 +92,10 @@ moment_in t OneDigit = moment_at t (digit_of (get_or t 11 0)) 12
 unfoldable pub judges : Moment → Said Moment
 judges m = cond (moment_exists m) (gives m) (refuses 10)
 
--- 12 for an unknown time, 10 for a text of no form
-abbrev pub by_form : List ℕ → Form → Said Moment
-by_form t Unknown = refuses 12
-by_form t (Told hour) = judges (moment_in t hour)
-by_form t Other = refuses 10
+-- the moment by the form of the hour, or the refusal
+abbrev pub by_form : List ℕ → Said HourForm → Said Moment
+by_form t (gives hour) = judges (moment_in t hour)
+by_form t (refuses n) = refuses n
 
 -- what a whole text says
 unfoldable pub reads_text : List ℕ → Said Moment
@@ -109,8 +104,3 @@ reads_text t = by_form t (form_of t)
 -- what the part of a block says
 unfoldable pub reads : List ℕ → ℕ → ℕ → Said Moment
 reads = of_part reads_text
-
--- what the reader's answer says
-abbrev pub text_says : TextRead → Said Moment
-text_says (SaysMoment m) = gives m
-text_says (Refused n) = refuses n

@@ -1,11 +1,9 @@
 -- What the reader of sub-second texts does. The rule for the digits stands in `hundredths_of` alone.
 -- Assumes nothing.
 use Rattle.std.specs.Prelude.{cond, List, [], ◌∷◌, ℕ, eqb, length, get_or}
-use Rattle.moment.specs.Said.{Said, gives, refuses}
+use Rattle.refusal.specs.Said.{Said, gives, refuses}
 use Rattle.exif.specs.Parts.{of_part}
 use Rattle.exif.specs.Reading.{digit_of, two_at, shaped}
-use Rattle.exif.specs.declared.SubSecond.{SubSecond}
-use Rattle.exif.specs.declared.SubSecond.TheVariants.{Hundredths, Refused}
 
 -- the hundredths that a whole text says: none is 0; d is any digit, as in Reading.antt
 unfoldable pub hundredths_of : List ℕ → Said ℕ
@@ -17,8 +15,3 @@ hundredths_of t =
 -- what the part of a block says
 unfoldable pub reads_sub_second : List ℕ → ℕ → ℕ → Said ℕ
 reads_sub_second = of_part hundredths_of
-
--- what the reader's answer says
-abbrev pub sub_second_says : SubSecond → Said ℕ
-sub_second_says (Hundredths n) = gives n
-sub_second_says (Refused n) = refuses n

@@ -1,12 +1,11 @@
 -- What the writer does.
 -- Assumes nothing.
-use Rattle.std.specs.Prelude.{cond, List, ◌++◌, ℕ, length, take, drop}
-use Rattle.moment.specs.Said.{Said, gives, refuses}
+use Rattle.std.specs.Prelude.{Result, Ok, Err, cond, List, ◌++◌, ℕ, length, take, drop}
+use Rattle.refusal.specs.Said.{Said, gives, refuses, number}
 use Rattle.moment.specs.Key.{moment_of, fields_of, legal_of}
 use Rattle.exif.specs.Forms.{two_digit_hour}
 use Rattle.exif.specs.Parts.{beyond_of}
-use Rattle.exif.specs.declared.Written.{Written}
-use Rattle.exif.specs.declared.Written.TheVariants.{Done, Refused}
+use Rattle.refusal.specs.declared.Refusal.{Refusal}
 
 -- the buffer with a text of 20 bytes at a place, all else as it was
 unfoldable pub put_text : List ℕ → ℕ → List ℕ → List ℕ
@@ -25,6 +24,6 @@ leaves (gives after) before = after
 leaves (refuses n) before = before
 
 -- what the writer's answer says, with the buffer as it is after the call
-abbrev pub written_says : Written → List ℕ → Said (List ℕ)
-written_says Done after = gives after
-written_says (Refused n) after = refuses n
+abbrev pub written_says : Result Unit Refusal → List ℕ → Said (List ℕ)
+written_says (Ok _) after = gives after
+written_says (Err e) after = refuses (number e)

@@ -2,35 +2,17 @@
 // public function answers for any block, place, length and key.
 #![tactic(auto)]
 
-ghost use Rattle.std.specs.Prelude.{◌≡◌, ◌+◌, ◌/◌, ◌≤◌, ◌<◌, length, get_or, set};
+ghost use Rattle.std.specs.Prelude.{◌≡◌, ◌+◌, ◌/◌, ◌≤◌, ◌<◌, length, get_or, set, take, drop, true, false, MatchResult};
+ghost use Rattle.refusal.specs.Said.{said};
+ghost use Rattle.refusal.specs.declared.Refusal.TheVariants.{Beyond};
 ghost use Rattle.exif.specs.Forms.{digit, two_digit_hour};
 ghost use Rattle.exif.specs.Parts.{beyond_of};
-ghost use Rattle.exif.specs.Reading.{is_digit, digit_of, fits_byte, shaped, two_at, unknown_of, one_digit_of, form_of, moment_at, moment_in, judges, reads_text, reads, text_says};
-ghost use Rattle.exif.specs.SubSecond.{hundredths_of, reads_sub_second, sub_second_says};
+ghost use Rattle.exif.specs.Reading.{digit_of, fits_byte, shaped, two_at, unknown_of, one_digit_of, form_of, moment_at, moment_in, judges, reads_text, reads};
+ghost use Rattle.exif.specs.SubSecond.{hundredths_of, reads_sub_second};
 ghost use Rattle.exif.specs.Writing.{writes, leaves, written_says};
 
 use moment::Moment;
-
-// What a capture text says: its moment, or a refusal with its number.
-#[derive(Clone, Copy)]
-pub enum TextRead {
-    Moment(Moment),
-    Refused(u64),
-}
-
-// What the writer answers.
-#[derive(Clone, Copy)]
-pub enum Written {
-    Done,
-    Refused(u64),
-}
-
-// What a sub-second text says: hundredths of a second, or a refusal with its number.
-#[derive(Clone, Copy)]
-pub enum SubSecond {
-    Hundredths(u64),
-    Refused(u64),
-}
+use refusal::Refusal;
 
 // How the hour of a capture text is written.
 #[derive(Clone, Copy)]
@@ -40,59 +22,44 @@ enum HourForm {
     OneDigit,
 }
 
-// Which form a text has, before its date and time are judged.
-#[derive(Clone, Copy)]
-enum Form {
-    Unknown,
-    Told(HourForm),
-    Other,
-}
-
-// Does a part of this length lie beyond a block of this size? Place and length are any numbers: their sum is not formed.
-fn beyond(size: usize, place: usize, length: usize) -> bool
-    ensures { result ≡ beyond_of size place length }
+// That part of a block, if it does not lie beyond. Place and length are any numbers: their sum is not formed.
+#[tactic(auto, unfolding(crate::specs::Parts::beyond_of))]
+fn part(block: &[u8], place: usize, count: usize) -> Result<&[u8], Refusal>
+    ensures { MatchResult result (λ p. (beyond_of (length block.now) place count ≡ false) × (p.now ≡ take count (drop place block.now))) (λ e. (beyond_of (length block.now) place count ≡ true) × (e ≡ Beyond)) }
 {
-    if size < place {
-        return true;
-    }
-    size - place < length
-}
-
-// Is the byte a digit?
-fn is_digit(b: u8) -> bool
-    ensures { result ≡ is_digit b }
-{
-    (b'0' <= b) & (b <= b'9')
+    let rest = block.get(place..).ok_or(Refusal::Beyond)?;
+    rest.get(..count).ok_or(Refusal::Beyond)
 }
 
 // In a form `d` stands for any digit, and every other byte for itself.
+#[tactic(auto, unfolding(crate::specs::Reading::fits_byte, crate::specs::Reading::is_digit))]
 fn fits_byte(kind: u8, b: u8) -> bool
     ensures { result ≡ fits_byte kind b }
 {
     if kind == b'd' {
-        return is_digit(b);
+        return b.is_ascii_digit();
     }
     b == kind
 }
 
-// Does the whole text have this form?
+// Does the whole text have this form? The chain of `zip` and `all` takes more instructions than this loop.
+#[tactic(auto, using(crate::proofs::Shapes::other_length, crate::proofs::Shapes::step, crate::proofs::Shapes::ended))]
 fn has_form(form: &[u8], t: &[u8]) -> bool
     ensures { result ≡ shaped form.now t.now }
 {
     if form.len() != t.len() {
         return false;
     }
-    let mut i = 0;
-    while i < t.len() {
+    for i in 0..t.len() {
         if !fits_byte(form[i], t[i]) {
             return false;
         }
-        i += 1;
     }
     true
 }
 
 // The digit at a place; 0 where there is none.
+#[tactic(auto, unfolding(crate::specs::Reading::digit_of, crate::specs::Reading::is_digit))]
 fn digit_at(t: &[u8], i: usize) -> u64
     ensures value { result ≡ digit_of (get_or t.now i 0) }
     ensures small { result ≤ 9 }
@@ -101,13 +68,14 @@ fn digit_at(t: &[u8], i: usize) -> u64
         return 0;
     }
     let b = t[i];
-    if !is_digit(b) {
+    if !b.is_ascii_digit() {
         return 0;
     }
     (b - b'0') as u64
 }
 
 // The number that two digits at a place say.
+#[tactic(auto, unfolding(crate::specs::Reading::two_at))]
 fn two_at(t: &[u8], i: usize) -> u64
     requires { i ≤ 20 }
     ensures value { result ≡ two_at t.now i }
@@ -117,6 +85,7 @@ fn two_at(t: &[u8], i: usize) -> u64
 }
 
 // Does the text say that the time is unknown? All blanks, or blanks with the four colons in place.
+#[tactic(auto, unfolding(crate::specs::Reading::unknown_of))]
 fn time_unknown(t: &[u8]) -> bool
     ensures { result ≡ unknown_of t.now }
 {
@@ -124,32 +93,35 @@ fn time_unknown(t: &[u8]) -> bool
 }
 
 // Does the text have an hour of one digit? It may end in a second NUL.
+#[tactic(auto, unfolding(crate::specs::Reading::one_digit_of))]
 fn one_digit_hour(t: &[u8]) -> bool
     ensures { result ≡ one_digit_of t.now }
 {
     has_form(b"dddd:dd:dd d:dd:dd\0", t) | has_form(b"dddd:dd:dd d:dd:dd\0\0", t)
 }
 
-// The form of a text; an unknown time comes first.
-fn form_of(t: &[u8]) -> Form
-    ensures { result ≡ form_of t.now }
+// How the hour is written; or 12 for an unknown time, which comes first, and 10 for a text of no form.
+#[tactic(auto, unfolding(crate::specs::Reading::form_of))]
+fn form_of(t: &[u8]) -> Result<HourForm, Refusal>
+    ensures { said result ≡ form_of t.now }
 {
     if time_unknown(t) {
-        return Form::Unknown;
+        return Err(Refusal::Unknown);
     }
     if has_form(b"dddd:dd:dd dd:dd:dd\0", t) {
-        return Form::Told(HourForm::TwoDigits);
+        return Ok(HourForm::TwoDigits);
     }
     if has_form(b"dddd:dd:dd  d:dd:dd\0", t) {
-        return Form::Told(HourForm::BlankAndDigit);
+        return Ok(HourForm::BlankAndDigit);
     }
     if one_digit_hour(t) {
-        return Form::Told(HourForm::OneDigit);
+        return Ok(HourForm::OneDigit);
     }
-    Form::Other
+    Err(Refusal::Text)
 }
 
 // The fields of a text, its hour given, with :MM:SS at a place.
+#[tactic(auto, unfolding(crate::specs::Reading::moment_at))]
 fn moment_at(t: &[u8], hour: u64, place: usize) -> Moment
     requires { place ≤ 13 }
     ensures { result ≡ moment_at t.now hour place }
@@ -165,6 +137,7 @@ fn moment_at(t: &[u8], hour: u64, place: usize) -> Moment
 }
 
 // The fields of a text whose hour is written so.
+#[tactic(auto, unfolding(crate::specs::Reading::moment_in))]
 fn moment_in(t: &[u8], form: HourForm) -> Moment
     ensures { result ≡ moment_in t.now form }
 {
@@ -176,63 +149,56 @@ fn moment_in(t: &[u8], form: HourForm) -> Moment
 }
 
 // A date and time that do not exist are no capture text.
-fn judge(m: Moment) -> TextRead
-    ensures { text_says result ≡ judges m }
+#[tactic(auto, unfolding(crate::specs::Reading::judges))]
+fn judge(m: Moment) -> Result<Moment, Refusal>
+    ensures { said result ≡ judges m }
 {
     if moment::moment_exists(m) {
-        return TextRead::Moment(m);
+        return Ok(m);
     }
-    TextRead::Refused(10)
+    Err(Refusal::Text)
 }
 
 // Reads a whole text.
-fn read_whole(t: &[u8]) -> TextRead
-    ensures { text_says result ≡ reads_text t.now }
+#[tactic(auto, unfolding(crate::specs::Reading::reads_text))]
+fn read_whole(t: &[u8]) -> Result<Moment, Refusal>
+    ensures { said result ≡ reads_text t.now }
 {
-    let form = form_of(t);
-    match form {
-        Form::Unknown => TextRead::Refused(12),
-        Form::Told(hour) => judge(moment_in(t, hour)),
-        Form::Other => TextRead::Refused(10),
-    }
+    let hour = form_of(t)?;
+    judge(moment_in(t, hour))
 }
 
 // Reads the capture text that is that part of the block.
-pub fn read_text(block: &[u8], place: usize, length: usize) -> TextRead
-    ensures { text_says result ≡ reads block.now place length }
+#[tactic(auto, unfolding(crate::specs::Reading::reads, crate::specs::Parts::of_part))]
+pub fn read_text(block: &[u8], place: usize, length: usize) -> Result<Moment, Refusal>
+    ensures { said result ≡ reads block.now place length }
 {
-    if beyond(block.len(), place, length) {
-        return TextRead::Refused(11);
-    }
-    let end = place + length;
-    read_whole(&block[place..end])
+    read_whole(part(block, place, length)?)
 }
 
 // The hundredths that a whole sub-second text says.
-fn hundredths(t: &[u8]) -> SubSecond
-    ensures { sub_second_says result ≡ hundredths_of t.now }
+#[tactic(auto, unfolding(crate::specs::SubSecond::hundredths_of))]
+fn hundredths(t: &[u8]) -> Result<u64, Refusal>
+    ensures { said result ≡ hundredths_of t.now }
 {
-    if t.len() == 0 {
-        return SubSecond::Hundredths(0);
+    if t.is_empty() {
+        return Ok(0);
     }
     if has_form(b"d\0", t) {
-        return SubSecond::Hundredths(digit_at(t, 0));
+        return Ok(digit_at(t, 0));
     }
     if has_form(b"dd\0", t) {
-        return SubSecond::Hundredths(two_at(t, 0));
+        return Ok(two_at(t, 0));
     }
-    SubSecond::Refused(10)
+    Err(Refusal::Text)
 }
 
 // Reads the sub-second text that is that part of the block; an absent one has length 0.
-pub fn read_sub_second(block: &[u8], place: usize, length: usize) -> SubSecond
-    ensures { sub_second_says result ≡ reads_sub_second block.now place length }
+#[tactic(auto, unfolding(crate::specs::SubSecond::reads_sub_second, crate::specs::Parts::of_part))]
+pub fn read_sub_second(block: &[u8], place: usize, length: usize) -> Result<u64, Refusal>
+    ensures { said result ≡ reads_sub_second block.now place length }
 {
-    if beyond(block.len(), place, length) {
-        return SubSecond::Refused(11);
-    }
-    let end = place + length;
-    hundredths(&block[place..end])
+    hundredths(part(block, place, length)?)
 }
 
 // Puts the last two digits of a number at a place.
@@ -268,17 +234,16 @@ fn fill(d: &mut [u8], m: Moment)
 }
 
 // Writes the two-digit form of the key's date and time at a place of the buffer; every other byte stays.
-pub fn write_text(buf: &mut [u8], place: usize, key: u64) -> Written
+#[tactic(auto, unfolding(crate::specs::Writing::writes, crate::specs::Writing::put_text), using(crate::proofs::Parts::within))]
+pub fn write_text(buf: &mut [u8], place: usize, key: u64) -> Result<(), Refusal>
     ensures answer { written_says result buf.new ≡ writes buf.old place key }
     ensures buffer { buf.new ≡ leaves (writes buf.old place key) buf.old }
 {
     if !moment::legal(key) {
-        return Written::Refused(3);
+        return Err(Refusal::Range);
     }
-    if beyond(buf.len(), place, 20) {
-        return Written::Refused(11);
-    }
+    part(buf, place, 20)?;
     let end = place + 20;
     fill(&mut buf[place..end], moment::moment_of(moment::unpack(key)));
-    Written::Done
+    Ok(())
 }

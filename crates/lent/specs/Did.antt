@@ -1,7 +1,7 @@
 -- What a call over a lent record promises: what it says, and the record and the words after it, are the protocol's.
 -- Assumes nothing.
 use Rattle.std.specs.Prelude.{◌≡◌, List, ℕ}
-use Rattle.moment.specs.Said.{Said}
+use Rattle.refusal.specs.Said.{Said}
 use Rattle.protocol.specs.Step.{Call}
 use Rattle.protocol.specs.declared.Worker.{Worker}
 

@@ -2,18 +2,18 @@
 // store of the record that it gives back; each promises the protocol's definition, refusals included.
 #![tactic(auto)]
 
-ghost use Rattle.table.specs.Rules.{reply_says};
+ghost use Rattle.refusal.specs.Said.{said};
 ghost use Rattle.protocol.specs.Says.{answer_says};
 ghost use Rattle.protocol.specs.Step.{step_of};
 ghost use Rattle.protocol.specs.Calls.{start_of, withdraw_of};
 ghost use Rattle.lent.specs.Did.{Did};
 
 use protocol::{Answer, Kind, Worker};
-use table::Reply;
+use refusal::Refusal;
 
 // Begins a work on a key: it takes a seat and stands at the root.
-pub fn start(words: &mut [u64], worker: &mut Worker, kind: Kind, key: u64) -> Reply
-    ensures { Did (start_of words.old worker.old kind key) (reply_says result) worker.new words.new }
+pub fn start(words: &mut [u64], worker: &mut Worker, kind: Kind, key: u64) -> Result<(), Refusal>
+    ensures { Did (start_of words.old worker.old kind key) (said result) worker.new words.new }
 {
     let started = worker::start(words, *worker, kind, key);
     *worker = started.worker;
@@ -21,7 +21,7 @@ pub fn start(words: &mut [u64], worker: &mut Worker, kind: Kind, key: u64) -> Re
 }
 
 // One step of a busy worker.
-pub fn step(words: &mut [u64], worker: &mut Worker) -> Answer
+pub fn step(words: &mut [u64], worker: &mut Worker) -> Result<Answer, Refusal>
     ensures { Did (step_of words.old worker.old) (answer_says result) worker.new words.new }
 {
     let stepped = worker::step(words, *worker);
@@ -30,8 +30,8 @@ pub fn step(words: &mut [u64], worker: &mut Worker) -> Answer
 }
 
 // Gives up locks and seat of a work that has not stored yet; the record is idle then.
-pub fn withdraw(words: &mut [u64], worker: &mut Worker) -> Reply
-    ensures { Did (withdraw_of words.old worker.old) (reply_says result) worker.new words.new }
+pub fn withdraw(words: &mut [u64], worker: &mut Worker) -> Result<(), Refusal>
+    ensures { Did (withdraw_of words.old worker.old) (said result) worker.new words.new }
 {
     let withdrawn = worker::withdraw(words, *worker);
     *worker = withdrawn.worker;

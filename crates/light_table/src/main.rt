@@ -3,10 +3,10 @@
 #![tactic(auto)]
 
 mod limits;
-mod runs;
 mod tables;
 mod telling;
 mod texts;
+mod works;
 
 use std::io;
 

@@ -1,61 +1,32 @@
 // Keys and capture texts: what is read, what is refused, and what is written.
 use super::telling::tell;
-use exif::{SubSecond, TextRead, Written};
-use moment::{Fields, Packed};
+use moment::{Fields, Moment};
+use refusal::Refusal;
 use std::io::{self, Write};
 
-// The number that reading a text is refused with; 0 where it is read.
-fn refusal(text: &[u8]) -> u64 {
-    let said = exif::read_text(text, 0, text.len());
-    match said {
-        TextRead::Moment(_) => 0,
-        TextRead::Refused(n) => n,
-    }
+// What the whole text says.
+fn read(text: &[u8]) -> Result<Moment, Refusal> {
+    exif::read_text(text, 0, text.len())
 }
 
-// The key of the text's moment, hundredth 0, camera 1; 0 where there is none.
-fn key_of(text: &[u8], number: u64) -> u64 {
-    let said = exif::read_text(text, 0, text.len());
-    match said {
-        TextRead::Refused(_) => 0,
-        TextRead::Moment(m) => packed(Fields {
-            year: m.year,
-            month: m.month,
-            day: m.day,
-            hour: m.hour,
-            minute: m.minute,
-            second: m.second,
-            hundredth: 0,
-            camera: 1,
-            number,
-        }),
-    }
-}
-
-fn packed(f: Fields) -> u64 {
-    let answer = moment::pack(f);
-    match answer {
-        Packed::Key(key) => key,
-        Packed::Refused(_) => 0,
-    }
+// The key of the text's moment, hundredth 0, camera 1.
+fn key_of(text: &[u8], number: u64) -> Result<u64, Refusal> {
+    moment::pack(Fields {
+        moment: read(text)?,
+        hundredth: 0,
+        camera: 1,
+        number,
+    })
 }
 
 // Is the text of the key, written into a buffer, this one?
 fn written_as(key: u64, text: &[u8; 20]) -> bool {
-    let mut buffer = [0u8; 20];
-    let answer = exif::write_text(&mut buffer, 0, key);
-    match answer {
-        Written::Refused(_) => false,
-        Written::Done => buffer == *text,
-    }
+    let mut buffer = [0; 20];
+    exif::write_text(&mut buffer, 0, key).is_ok() && buffer == *text
 }
 
-fn hundredths(text: &[u8]) -> u64 {
-    let said = exif::read_sub_second(text, 0, text.len());
-    match said {
-        SubSecond::Hundredths(n) => n,
-        SubSecond::Refused(n) => 1000 + n % 1000,
-    }
+fn hundredths(text: &[u8]) -> Result<u64, Refusal> {
+    exif::read_sub_second(text, 0, text.len())
 }
 
 // The keys of the sorting program's example, and their order.
@@ -65,18 +36,19 @@ pub fn keys<W: Write>(out: &mut W) -> io::Result<()> {
     tell(
         out,
         b"frame 101 of camera 1, 9:58:07, has key 7E867A7A1C004065",
-        first == 0x7E867A7A1C004065,
+        first == Ok(0x7E867A7A1C004065),
     )?;
     tell(
         out,
         b"frame 102 of camera 1, 10:02:07, has key 7E867A821C004066",
-        second == 0x7E867A821C004066,
+        second == Ok(0x7E867A821C004066),
     )?;
-    tell(out, b"the first is smaller", first < second)?;
+    let rises = first.is_ok_and(|a| second.is_ok_and(|b| a < b));
+    tell(out, b"the first is smaller", rises)?;
     tell(
         out,
         b"the first is written 2024:06:15 09:58:07",
-        written_as(first, b"2024:06:15 09:58:07\0"),
+        first.is_ok_and(|key| written_as(key, b"2024:06:15 09:58:07\0")),
     )
 }
 
@@ -85,37 +57,37 @@ pub fn read_or_refused<W: Write>(out: &mut W) -> io::Result<()> {
     tell(
         out,
         b"2000:02:29 is read",
-        refusal(b"2000:02:29 12:00:00\0") == 0,
+        read(b"2000:02:29 12:00:00\0").is_ok(),
     )?;
     tell(
         out,
         b"2100:02:29 is refused 10",
-        refusal(b"2100:02:29 12:00:00\0") == 10,
+        read(b"2100:02:29 12:00:00\0") == Err(Refusal::Text),
     )?;
     tell(
         out,
         b"hour 24 is refused 10",
-        refusal(b"2024:06:15 24:00:00\0") == 10,
+        read(b"2024:06:15 24:00:00\0") == Err(Refusal::Text),
     )?;
     tell(
         out,
         b"23:59:59 is read",
-        refusal(b"2024:06:15 23:59:59\0") == 0,
+        read(b"2024:06:15 23:59:59\0").is_ok(),
     )?;
     let blank = key_of(b"2024:06:15  9:58:07\0", 101);
     tell(
         out,
         b"a blank hour, 2024:06:15  9:58:07, equals 09:58:07",
-        blank == key_of(b"2024:06:15 09:58:07\0", 101),
+        blank.is_ok() && blank == key_of(b"2024:06:15 09:58:07\0", 101),
     )?;
     tell(
         out,
         b"a time of blanks is refused 12",
-        refusal(b"                   \0") == 12,
+        read(b"                   \0") == Err(Refusal::Unknown),
     )?;
     tell(
         out,
         b"sub-second text 5 is 5 hundredths",
-        hundredths(b"5\0") == 5,
+        hundredths(b"5\0") == Ok(5),
     )
 }

@@ -1,20 +1,22 @@
 -- A LINE FED IN PIECES SAYS WHAT THE WHOLE LINE SAYS.
 -- Assumes nothing.
 use mathlib.Core.Path.{◌≡◌, refl, sym, ap, ◌∙◌}
-use mathlib.Core.Bool.{Bool, true, false, ◌||◌, or-false, or-true, or_assoc}
+use mathlib.Core.Bool.{Bool, true, false, ◌||◌, or-true, or_assoc}
 use mathlib.Core.List.{List, [], ◌∷◌, ◌++◌, append-nil}
-use Prim.Native.Nat.{ℕ, ◌+◌, ◌-◌, ◌≤◌, ◌<◌}
-use native.Mathlib.Nat.{add-zero}
+use Prim.Native.Nat.{ℕ, ◌+◌, ◌-◌, ◌<◌}
 use native.Mathlib.Omega.{arith}
+use native.Mathlib.Decide.{dec_lt}
+use borrow.Author.Tests.{lt-ltb, le-ltb}
 use lib.Dec.{eqb}
 use lib.ListN.{length, take, drop, drop_of_length-le}
 use lib.Seq.{sets, take_all, length-take-le}
-use Rattle.moment.specs.Said.{refuses}
+use Rattle.refusal.specs.Said.{refuses}
 use Rattle.exif.specs.Forms.{nul}
 use Rattle.lines.specs.Line.{has, form_of, line_says}
-use Rattle.lines.specs.Feeding.{fed_line, fed_kept, held_line}
+use Rattle.lines.specs.Feeding.{fed_line, held_line}
+use Rattle.lines.specs.Room.{room_for, appended}
+use Rattle.std.specs.Prelude.{min}
 use Rattle.lines.specs.declared.Line.{Line}
-use Rattle.lines.proofs.Numbers.{part_from}
 
 pub has_append : (x : ℕ) (s t : List ℕ) → has x (s ++ t) ≡ (has x s || has x t)
 unfolding has
@@ -31,46 +33,57 @@ unfolding has
 nul_refused line = broken_by_nul (line ++ nul) (has_append 0 line nul ∙ or-true (has 0 line))
 
 -- the line that is held: with a NUL, or just the bytes that are kept
-pub held_nul : (l : Line) (kept : List ℕ) → l.nul ≡ true → line_says (held_line l kept) ≡ refuses 10
+pub held_nul : (l : Line) → l.nul ≡ true → line_says (held_line l) ≡ refuses 10
 unfolding held_line
-held_nul l kept e = rw e (nul_refused (take l.len kept))
+held_nul l e = rw e (nul_refused (take l.len l.kept))
 
-pub held_front : (l : Line) (kept : List ℕ) → l.nul ≡ false → held_line l kept ≡ take l.len kept
+pub held_front : (l : Line) (n : ℕ) → l.nul ≡ false → length l.kept ≡ 32 → n ≡ min l.len 32 → held_line l ≡ take n l.kept
 unfolding held_line
-held_front l kept e = rw e (append-nil (take l.len kept))
+held_front l n e h m = rw e (append-nil (take l.len l.kept)) ∙ here (dec_lt 32 l.len)
+  where
+    here : Dec (32 < l.len) → take l.len l.kept ≡ take n l.kept
+    here (yes q) = take_all l.len l.kept (omega arith) ∙ sym (take_all n l.kept (omega arith))
+    here (no q) = let same : n ≡ l.len = omega arith in rw same
 
--- WHAT A PIECE DOES, by the room that is left
-module _ (l : Line) (kept piece : List ℕ) where
-  -- that the code's answer r and its bytes are those of the definition
-  abbrev Feeds : Line → List ℕ → Type 0
-  Feeds r after = (r ≡ fed_line l piece) × (after ≡ fed_kept l kept piece)
+-- WHAT A PIECE DOES: its front goes behind the bytes that are kept, as far as there is room
+record Fronts (m n : ℕ) (piece : List ℕ) : Type 0 where
+  front : take n piece ≡ take m piece
+  rest : drop n piece ≡ drop m piece
+  size : length (take m piece) ≡ n
 
-  long : 32 ≤ l.len → (fed_line l piece ≡ record { len = l.len; nul = l.nul || has 0 piece }) × (fed_kept l kept piece ≡ kept)
-  unfolding fed_line fed_kept
-  long h = let z : 32 - l.len ≡ 0 = omega arith in (simp (z, add-zero), simp z)
+fronts : (m n : ℕ) (piece : List ℕ) → n ≡ min m (length piece) → Fronts m n piece
+fronts m n piece e = here (dec_lt (length piece) m)
+  where
+    here : Dec (length piece < m) → Fronts m n piece
+    here (yes l) =
+        let all = take_all m piece (omega arith) in
+        record {
+          front = take_all n piece (omega arith) ∙ sym all;
+          rest = drop_of_length-le piece {i = n} (omega arith) ∙ sym (drop_of_length-le piece {i = m} (omega arith));
+          size = rw all (omega arith);
+        }
+    here (no l) =
+        let same : n ≡ m = omega arith in
+        record { front = rw same; rest = rw same; size = rw same (length-take-le m piece (omega arith)) }
 
-  pub fed_known : 32 ≤ l.len → l.nul ≡ true → Feeds l kept
-  fed_known h e =
-      let same : (l.nul || has 0 piece) ≡ l.nul = rw e in
-      (sym ((long h).0 ∙ ap (λ (b : Bool). record { len = l.len; nul = b }) same), sym (long h).1)
+pub fed_front : (l : Line) (piece : List ℕ) (n : ℕ) (after : List ℕ) (known : Bool) → length l.kept ≡ 32 → n ≡ min (32 - l.len) (length piece)
+    → after ≡ appended l.kept l.len (take n piece) → known ≡ (l.nul || has 0 (drop n piece))
+    → ◌≡◌ {A = Line} (record { kept = after; len = l.len + n; nul = known }) (fed_line l piece)
+unfolding fed_line appended room_for
+fed_front l piece n after known h e f g = let r = s.rest in let z = s.size in rw (put, g, r, z)
+  where
+    s : Fronts (32 - l.len) n piece
+    s = fronts (32 - l.len) n piece e
 
-  pub fed_long : (b : Bool) → 32 ≤ l.len → l.nul ≡ false → b ≡ has 0 piece → Feeds (record { len = l.len; nul = b }) kept
-  fed_long b h e f =
-      let same : (l.nul || has 0 piece) ≡ b = rw (e, f) in
-      (sym ((long h).0 ∙ ap (λ (k : Bool). record { len = l.len; nul = k }) same), sym (long h).1)
-
-  pub fed_short : (after : List ℕ) → length piece ≤ 32 - l.len → after ≡ sets kept l.len piece
-      → Feeds (record { len = l.len + length piece; nul = l.nul }) after
-  unfolding fed_line fed_kept has
-  fed_short after h e =
-      let t = take_all (32 - l.len) piece h in
-      (simp (t, drop_of_length-le piece {i = 32 - l.len} h, or-false), e ∙ simp t)
-
-  pub fed_over : (b : Bool) (after : List ℕ) → l.len < 32 → 32 - l.len < length piece
-      → b ≡ has 0 (take (length piece - (32 - l.len)) (drop (32 - l.len) piece)) → after ≡ sets kept l.len (take (32 - l.len) piece)
-      → Feeds (record { len = 32; nul = l.nul || b }) after
-  unfolding fed_line fed_kept
-  fed_over b after g h f e =
-      let n = length-take-le (32 - l.len) piece (omega arith) in
-      let all : l.len + (32 - l.len) ≡ 32 = omega arith in
-      (simp (n, all, f, part_from piece (32 - l.len)), e)
+    -- where it is put, there is room for it
+    put : after ≡ sets l.kept l.len (take (32 - l.len) piece)
+    put = f ∙ here (dec_lt 32 l.len)
+      where
+        here : Dec (32 < l.len) → appended l.kept l.len (take n piece) ≡ sets l.kept l.len (take (32 - l.len) piece)
+        here (yes q) =
+            let z : 32 - l.len ≡ 0 = omega arith in
+            simp (h, lt-ltb 32 l.len q, z)
+        here (no q) =
+            let r = s.front in
+            let fit = s.size in
+            simp (h, le-ltb 32 l.len (omega arith), r, le-ltb (32 - l.len) (length (take (32 - l.len) piece)) (omega arith))

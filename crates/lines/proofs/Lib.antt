@@ -1,7 +1,6 @@
 pub mod Bytes
 pub mod Scanning
 pub mod Texts
-pub mod Numbers
 pub mod Feeding
 pub mod Pieces
 pub mod Forms

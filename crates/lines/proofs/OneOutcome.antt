@@ -4,37 +4,32 @@ use mathlib.Core.Path.{◌≡◌, sym, ◌∙◌}
 use mathlib.Core.Bool.{Bool}
 use mathlib.Core.List.{List}
 use Prim.Native.Nat.{ℕ}
-use Rattle.lines.specs.Line.{line_says, line_read_says}
-use Rattle.lines.specs.Feeding.{begun, fed_line, fed_kept, held_line}
+use Rattle.std.specs.Prelude.{Result}
+use Rattle.refusal.specs.Said.{said}
+use Rattle.refusal.specs.declared.Refusal.{Refusal}
+use Rattle.refusal.proofs.SaidLaws.{said_one}
+use Rattle.lines.specs.Line.{line_says}
+use Rattle.lines.specs.Feeding.{begun, fed_line, held_line}
 use Rattle.lines.specs.Ends.{end_of}
 use Rattle.lines.specs.Room.{room_for, appended}
 use Rattle.lines.specs.declared.Line.{Line}
-use Rattle.lines.specs.declared.LineRead.{LineRead}
-use Rattle.lines.specs.declared.LineRead.TheVariants.{Key, Refused}
 
-line_same : (a b : LineRead) → line_read_says a ≡ line_read_says b → a ≡ b
-line_same (Key m) (Key n) e = cc
-line_same (Key m) (Refused n) e = cc
-line_same (Refused m) (Key n) e = cc
-line_same (Refused m) (Refused n) e = cc
+pub read_line_one : (line : List ℕ) (a b : Result ℕ Refusal) → said a ≡ line_says line → said b ≡ line_says line → a ≡ b
+read_line_one line a b p q = said_one a b (p ∙ sym q)
 
-pub read_line_one : (line : List ℕ) (a b : LineRead) → line_read_says a ≡ line_says line → line_read_says b ≡ line_says line → a ≡ b
-read_line_one line a b p q = line_same a b (p ∙ sym q)
+pub begin_one : (kept : List ℕ) (a b : Line) → a ≡ begun kept → b ≡ begun kept → a ≡ b
+begin_one kept a b p q = p ∙ sym q
 
-pub begin_one : (a b : Line) → a ≡ begun → b ≡ begun → a ≡ b
-begin_one a b p q = p ∙ sym q
+pub feed_one : (l : Line) (piece : List ℕ) (a b : Line) → a ≡ fed_line l piece → b ≡ fed_line l piece → a ≡ b
+feed_one l piece a b p q = p ∙ sym q
 
--- the answers a, b with the bytes x, y
-pub feed_one : (l : Line) (kept piece : List ℕ) (a b : Line) (x y : List ℕ) → (a ≡ fed_line l piece) × (x ≡ fed_kept l kept piece)
-    → (b ≡ fed_line l piece) × (y ≡ fed_kept l kept piece) → (a ≡ b) × (x ≡ y)
-feed_one l kept piece a b x y p q = (p.0 ∙ sym q.0, p.1 ∙ sym q.1)
-
-pub finish_one : (l : Line) (kept : List ℕ) (a b : LineRead) → line_read_says a ≡ line_says (held_line l kept) → line_read_says b ≡ line_says (held_line l kept) → a ≡ b
-finish_one l kept a b p q = line_same a b (p ∙ sym q)
+pub finish_one : (l : Line) (a b : Result ℕ Refusal) → said a ≡ line_says (held_line l) → said b ≡ line_says (held_line l) → a ≡ b
+finish_one l a b p q = said_one a b (p ∙ sym q)
 
 pub line_end_one : (s : List ℕ) (at a b : ℕ) → a ≡ end_of s at → b ≡ end_of s at → a ≡ b
 line_end_one s at a b p q = p ∙ sym q
 
+-- the answers a, b with the bytes x, y
 pub append_one : (out : List ℕ) (at : ℕ) (line : List ℕ) (a b : Bool) (x y : List ℕ) → (a ≡ room_for out at line) × (x ≡ appended out at line)
     → (b ≡ room_for out at line) × (y ≡ appended out at line) → (a ≡ b) × (x ≡ y)
 append_one out at line a b x y p q = (p.0 ∙ sym q.0, p.1 ∙ sym q.1)

@@ -13,7 +13,7 @@ use borrow.Author.Tests.{leb-true, leb-false}
 use Rattle.exif.specs.Forms.{nul}
 use Rattle.exif.specs.Reading.{is_digit, reads_text}
 use Rattle.lines.specs.Line.{has, Front, number, none, front_of, with_number, with_camera, form_of, form_says, line_says}
-use Rattle.lines.specs.Feeding.{begun, fed_line, fed_kept, held_line, fed_says, whole}
+use Rattle.lines.specs.Feeding.{begun, fed_line, held_line, fed_says, whole}
 use Rattle.lines.specs.declared.Line.{Line}
 use Rattle.lines.proofs.Scanning.{scan, front_scan}
 use Rattle.lines.proofs.Texts.{long_text}
@@ -77,20 +77,20 @@ unfolding line_says form_of
 front_says line e f = rw (e, f) (camera_cut _ _ (front_cut 26 32 line (omega arith)))
 
 -- 2. WHAT THE STATE HOLDS OF THE LINE SO FAR
-record Holds (l : Line) (kept line : List ℕ) : Type 0 where
-  room : length kept ≡ 32
+record Holds (l : Line) (line : List ℕ) : Type 0 where
+  room : length l.kept ≡ 32
   len : l.len ≡ length (take 32 line)
-  front : take l.len kept ≡ take 32 line
+  front : take l.len l.kept ≡ take 32 line
   rest : l.nul ≡ has 0 (drop 32 line)
 
-holds_begun : (kept : List ℕ) → length kept ≡ 32 → Holds begun kept []
+holds_begun : (kept : List ℕ) → length kept ≡ 32 → Holds (begun kept) []
 unfolding has
 holds_begun kept n = record { room = n; len = refl; front = refl; rest = refl }
 
-module _ (l : Line) (kept line piece : List ℕ) (h : Holds l kept line) where
+module _ (l : Line) (line piece : List ℕ) (h : Holds l line) where
   -- no byte more is kept
-  holds_long : 32 ≤ length line → Holds (fed_line l piece) (fed_kept l kept piece) (line ++ piece)
-  unfolding fed_line fed_kept
+  holds_long : 32 ≤ length line → Holds (fed_line l piece) (line ++ piece)
+  unfolding fed_line
   holds_long g =
       let n : l.len ≡ 32 = h.len ∙ length-take-le 32 line g in
       let full : 32 - l.len ≡ 0 = omega arith in
@@ -130,58 +130,58 @@ module _ (l : Line) (kept line piece : List ℕ) (h : Holds l kept line) where
     few : length (take r piece) ≤ r
     few = rw (length-take r piece) (omega arith)
 
-    held : take (length line + length (take r piece)) (sets kept (length line) (take r piece)) ≡ line ++ take r piece
+    held : take (length line + length (take r piece)) (sets l.kept (length line) (take r piece)) ≡ line ++ take r piece
     held =
         let k = length line in
         let t = take r piece in
-        let f : take k kept ≡ line = rw (n, here) at h.front in
-        let e : sets kept k t ≡ line ++ t ++ drop (k + length t) kept = rw f at (sets-eq t kept k (omega (arith, few, all, h.room))) in
-        ap (take (k + length t)) e ∙ take_at (line ++ t) (drop (k + length t) kept) (k + length t) (length-append line t)
+        let f : take k l.kept ≡ line = rw (n, here) at h.front in
+        let e : sets l.kept k t ≡ line ++ t ++ drop (k + length t) l.kept = rw f at (sets-eq t l.kept k (omega (arith, few, all, h.room))) in
+        ap (take (k + length t)) e ∙ take_at (line ++ t) (drop (k + length t) l.kept) (k + length t) (length-append line t)
 
-    holds_short : Holds (fed_line l piece) (fed_kept l kept piece) (line ++ piece)
-    unfolding fed_line fed_kept
+    holds_short : Holds (fed_line l piece) (line ++ piece)
+    unfolding fed_line
     holds_short =
         record {
-          room = length-sets kept l.len (take (32 - l.len) piece) ∙ h.room;
+          room = length-sets l.kept l.len (take (32 - l.len) piece) ∙ h.room;
           len = simp (n, first, length-append);
           front = simp (n, first) held;
           rest = simp (n, none_yet, others);
         }
 
-holds_fed : (l : Line) (kept line piece : List ℕ) → Holds l kept line → Holds (fed_line l piece) (fed_kept l kept piece) (line ++ piece)
-holds_fed l kept line piece h = here (leb 32 (length line)) refl
+holds_fed : (l : Line) (line piece : List ℕ) → Holds l line → Holds (fed_line l piece) (line ++ piece)
+holds_fed l line piece h = here (leb 32 (length line)) refl
   where
-    here : (k : Bool) → leb 32 (length line) ≡ k → Holds (fed_line l piece) (fed_kept l kept piece) (line ++ piece)
-    here true e = holds_long l kept line piece h (leb-true _ _ e)
-    here false e = holds_short l kept line piece h (leb-false _ _ e)
+    here : (k : Bool) → leb 32 (length line) ≡ k → Holds (fed_line l piece) (line ++ piece)
+    here true e = holds_long l line piece h (leb-true _ _ e)
+    here false e = holds_short l line piece h (leb-false _ _ e)
 
 -- 3. SO THE LINE HELD SAYS WHAT THE LINE SAYS
 split : (line : List ℕ) → has 0 line ≡ (has 0 (take 32 line) || has 0 (drop 32 line))
 split line = ap (has 0) (sym (take-append-drop 32 line)) ∙ has_append 0 (take 32 line) (drop 32 line)
 
-held_says : (l : Line) (kept line : List ℕ) → Holds l kept line → line_says (held_line l kept) ≡ line_says line
+held_says : (l : Line) (line : List ℕ) → Holds l line → line_says (held_line l) ≡ line_says line
 unfolding held_line
-held_says l kept line h = here (has 0 (take 32 line)) (has 0 (drop 32 line)) refl refl
+held_says l line h = here (has 0 (take 32 line)) (has 0 (drop 32 line)) refl refl
   where
-    here : (f g : Bool) → has 0 (take 32 line) ≡ f → has 0 (drop 32 line) ≡ g → line_says (take l.len kept ++ cond l.nul nul []) ≡ line_says line
+    here : (f g : Bool) → has 0 (take 32 line) ≡ f → has 0 (drop 32 line) ≡ g → line_says (take l.len l.kept ++ cond l.nul nul []) ≡ line_says line
     here f true p q =
         let both = split line ∙ ap (λ (b : Bool). has 0 (take 32 line) || b) q ∙ or-true (has 0 (take 32 line)) in
-        rw (h.rest, q) (nul_refused (take l.len kept) ∙ sym (broken_by_nul line both))
+        rw (h.rest, q) (nul_refused (take l.len l.kept) ∙ sym (broken_by_nul line both))
     here true false p q =
         let both = split line ∙ ap (λ (b : Bool). b || has 0 (drop 32 line)) p in
-        rw (h.rest, q, append-nil (take l.len kept), h.front) (broken_by_nul (take 32 line) p ∙ sym (broken_by_nul line both))
+        rw (h.rest, q, append-nil (take l.len l.kept), h.front) (broken_by_nul (take 32 line) p ∙ sym (broken_by_nul line both))
     here false false p q =
         let neither = split line ∙ ap (λ (b : Bool). b || has 0 (drop 32 line)) p ∙ q in
-        rw (h.rest, q, append-nil (take l.len kept), h.front) (front_says line neither p)
+        rw (h.rest, q, append-nil (take l.len l.kept), h.front) (front_says line neither p)
 
 -- 4. IN ANY PIECES
-pieces_says : (l : Line) (kept line : List ℕ) (pieces : List (List ℕ)) → Holds l kept line → fed_says l kept pieces ≡ line_says (line ++ whole pieces)
+pieces_says : (l : Line) (line : List ℕ) (pieces : List (List ℕ)) → Holds l line → fed_says l pieces ≡ line_says (line ++ whole pieces)
 unfolding fed_says whole
-pieces_says l kept line [] h = rw (append-nil line) (held_says l kept line h)
-pieces_says l kept line (piece ∷ pieces) h =
-    pieces_says (fed_line l piece) (fed_kept l kept piece) (line ++ piece) pieces (holds_fed l kept line piece h)
+pieces_says l line [] h = rw (append-nil line) (held_says l line h)
+pieces_says l line (piece ∷ pieces) h =
+    pieces_says (fed_line l piece) (line ++ piece) pieces (holds_fed l line piece h)
     ∙ ap line_says (append_assoc line piece (whole pieces))
 
 -- Feeding a line in any pieces, into whatever 32 bytes are lent, gives the answer of the whole line.
-pub fed_in_pieces : (kept : List ℕ) → length kept ≡ 32 → (pieces : List (List ℕ)) → fed_says begun kept pieces ≡ line_says (whole pieces)
-fed_in_pieces kept n pieces = pieces_says begun kept [] pieces (holds_begun kept n)
+pub fed_in_pieces : (kept : List ℕ) → length kept ≡ 32 → (pieces : List (List ℕ)) → fed_says (begun kept) pieces ≡ line_says (whole pieces)
+fed_in_pieces kept n pieces = pieces_says (begun kept) [] pieces (holds_begun kept n)

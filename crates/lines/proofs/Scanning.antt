@@ -8,10 +8,12 @@ use native.Mathlib.Nat.{add-suc, suc-add, zero-add, add-zero}
 use native.Mathlib.Numerals.{add-one}
 use native.Mathlib.Omega.{arith}
 use lib.Dec.{leb, eqb}
-use lib.ListN.{length, drop, get_or, drop_of_length-le}
-use lib.Seq.{drop-cons}
-use borrow.Author.Tests.{leb-true, leb-false, le-leb, lt-leb, ne_eqb}
+use lib.ListN.{length, take, drop, get_or, length-drop, drop_of_length-le}
+use lib.Seq.{drop-cons, take_all}
+use borrow.Author.Tests.{leb-true, leb-false, le-leb, lt-leb, eq-eqb, ne_eqb}
+use Rattle.std.specs.Char.{is_ascii_digit}
 use Rattle.exif.specs.Reading.{is_digit}
+use Rattle.exif.proofs.Digits.{digit_bounds}
 use Rattle.lines.specs.Line.{has, word, behind, all_digits, is_number, value_from, value_of, Front, number, none, front_of}
 
 -- after d digits that said v
@@ -52,25 +54,42 @@ pub front_scan : (s : List ℕ) → front_of s ≡ scan 0 0 s
 unfolding front_of is_number value_of
 front_scan s = sym (simp zero-add at (scan_is 0 0 s (omega arith)))
 
--- where the loop begins
-pub begins : (s : List ℕ) (at : ℕ) → (at ≤ at) × (at - at ≤ 5) × (0 < 10 ^ (at - at)) × (front_of (drop at s) ≡ scan 0 (at - at) (drop at s))
-begins s at = let z : at - at ≡ 0 = omega arith in rw z (omega arith, omega arith, omega arith, front_scan (drop at s))
+-- A BYTE AT A PLACE, behind d digits that said v
+module _ (s : List ℕ) (i v d : ℕ) (h : i < length s) where
+  abbrev b : ℕ
+  b = get_or s i 0
 
--- one byte of it, at a place
-pub scan_at : (s : List ℕ) (i v d : ℕ) → i < length s
-    → scan v d (drop i s)
-    ≡ cond (eqb (get_or s i 0) 32) (cond (eqb d 0) none (number v (drop (i + 1) s)))
-    (cond (is_digit (get_or s i 0)) (cond (leb 5 d) none (scan (v * 10 + (get_or s i 0 - 48)) (d + 1) (drop (i + 1) s))) none)
-unfolding scan
-scan_at s i v d h = rw (drop-cons s i 0 h) (simp add-one)
+  one : scan v d (drop i s)
+      ≡ cond (eqb b 32) (cond (eqb d 0) none (number v (drop (i + 1) s)))
+      (cond (is_digit b) (cond (leb 5 d) none (scan (v * 10 + (b - 48)) (d + 1) (drop (i + 1) s))) none)
+  unfolding scan
+  one = rw (drop-cons s i 0 h) (simp add-one)
+
+  -- a blank at once is no number; behind digits it ends one
+  pub scan_first : b ≡ 32 → d ≡ 0 → scan v d (drop i s) ≡ none
+  scan_first e z = one ∙ simp (eq-eqb b 32 e, eq-eqb d 0 z)
+
+  pub scan_blank : b ≡ 32 → (d ≡ 0 → ⊥) → scan v d (drop i s) ≡ number v (take (length s - (i + 1)) (drop (i + 1) s))
+  scan_blank e z =
+      let rest = take_all (length s - (i + 1)) (drop (i + 1) s) (omega (arith, length-drop (i + 1) s)) in
+      one ∙ simp (eq-eqb b 32 e, ne_eqb d 0 z, rest)
+
+  -- what is no digit ends none, and a sixth digit is one too many
+  pub scan_other : (b ≡ 32 → ⊥) → is_ascii_digit b ≡ false → scan v d (drop i s) ≡ none
+  unfolding is_digit
+  scan_other e g = one ∙ simp (ne_eqb b 32 e, g)
+
+  pub scan_long : (b ≡ 32 → ⊥) → is_ascii_digit b ≡ true → 5 ≤ d → scan v d (drop i s) ≡ none
+  unfolding is_digit
+  scan_long e g f = one ∙ simp (ne_eqb b 32 e, g, le-leb 5 d f)
+
+  pub scan_more : (b ≡ 32 → ⊥) → is_ascii_digit b ≡ true → d < 5 → scan v d (drop i s) ≡ scan (v * 10 + (b - 48)) (d + 1) (drop (i + 1) s)
+  unfolding is_digit
+  scan_more e g f = one ∙ simp (ne_eqb b 32 e, g, lt-leb 5 d f)
 
 pub scan_out : (s : List ℕ) (i v d : ℕ) → length s ≤ i → scan v d (drop i s) ≡ none
 unfolding scan
 scan_out s i v d h = rw (drop_of_length-le s {i = i} h)
-
--- a sixth digit is one too many
-pub scan_long : (s : List ℕ) (i v d : ℕ) → i < length s → (get_or s i 0 ≡ 32 → ⊥) → is_digit (get_or s i 0) ≡ true → 5 ≤ d → scan v d (drop i s) ≡ none
-scan_long s i v d h e g f = scan_at s i v d h ∙ simp (ne_eqb (get_or s i 0) 32 e, g, le-leb 5 d f)
 
 -- the value of so many digits
 four : (d : ℕ) → d < 5 → 10 ^ d ≤ 10000
@@ -84,5 +103,9 @@ four (suc (suc (suc (suc (suc d))))) h = absurd (omega arith)
 pub small : (v d : ℕ) → v < 10 ^ d → d < 5 → v < 10000
 small v d h g = let f = four d g in omega arith
 
-pub more : (v d b : ℕ) → v < 10 ^ d → b ≤ 57 → v * 10 + (b - 48) < 10 ^ (d + 1)
-more v d b h g = rw add-one (omega arith)
+pub more : (v d b : ℕ) → v < 10 ^ d → is_ascii_digit b ≡ true → v * 10 + (b - 48) < 10 ^ (d + 1)
+unfolding is_digit
+more v d b h g = let r = digit_bounds b g in rw add-one (omega arith)
+
+-- what the loop needs of all this
+pub ruleset scans = (front_scan, scan_first, scan_blank, scan_other, scan_long, scan_more, scan_out, small, more)

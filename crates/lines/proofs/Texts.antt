@@ -1,6 +1,6 @@
 -- The text of a line, read with one NUL behind it.
 -- Assumes nothing.
-use mathlib.Core.Path.{◌≡◌, sym, ap, ◌∙◌}
+use mathlib.Core.Path.{◌≡◌, ap, ◌∙◌}
 use mathlib.Core.List.{List, ◌∷◌, ◌++◌}
 use Prim.Native.Nat.{ℕ, ◌+◌, ◌≤◌, ◌<◌}
 use native.Mathlib.Omega.{arith}
@@ -8,11 +8,10 @@ use native.Mathlib.Nat.{zero-add}
 use native.Mathlib.Numerals.{add-one}
 use lib.ListN.{length, take, drop, replicate, length-append, get_or-replicate}
 use lib.Seq.{sets, sets-eq, length-sets, drop-cons, take-append-add}
-use Rattle.moment.specs.Said.{refuses}
+use Rattle.refusal.specs.Said.{refuses}
 use Rattle.moment.specs.declared.Moment.{Moment}
 use Rattle.exif.specs.Forms.{nul, one, two, four, text, two_digit_hour, blank_hour, one_digit_hour, one_digit_hour_two_nuls, HasForm, two_digits, blank_and_digit, one_digit, one_digit_two_nuls, UnknownTime, all_blanks, four_colons}
-use Rattle.exif.specs.Reading.{reads_text, reads, text_says}
-use Rattle.exif.specs.declared.TextRead.{TextRead}
+use Rattle.exif.specs.Reading.{reads_text, reads}
 use Rattle.exif.proofs.Texts.{else_ten, within_read}
 
 -- a capture text has at most twenty bytes, and so has the text of an unknown time
@@ -41,8 +40,3 @@ text_behind t h =
     let z : drop (length t) zs ≡ 0 ∷ drop (length t + 1) zs = rw add-one (drop-cons zs (length t) 0 (omega arith) ∙ rw (get_or-replicate {A = ℕ} 20 (length t) 0 0 (omega arith))) in
     within_read (sets zs 0 t) 0 (length t + 1) (omega arith)
     ∙ ap reads_text (ap (take (length t + 1)) (sets-eq t zs 0 (omega arith) ∙ rw (zero-add, z)) ∙ take-append-add t (0 ∷ drop (length t + 1) zs) 1)
-
--- what the reader says of the twenty bytes it says of the text
-pub text_judged : (t b : List ℕ) (r : TextRead) → b ≡ sets (replicate 20 0) 0 t → length t ≤ 19 → text_says r ≡ reads b 0 (length t + 1)
-    → reads_text (t ++ nul) ≡ text_says r
-text_judged t b r e h s = sym (s ∙ ap (λ (z : List ℕ). reads z 0 (length t + 1)) e ∙ text_behind t h)

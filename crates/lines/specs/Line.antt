@@ -1,17 +1,14 @@
 -- A line of the sorting program, as the list of its bytes without its line end: its form, and what it says. A blank is
 -- byte 32, a NUL 0.
 -- Assumes nothing.
-use Rattle.std.specs.Prelude.{◌≡◌, Bool, true, false, cond, ◌&&◌, ◌||◌, List, [], ◌∷◌, ◌++◌, ℕ, ◌+◌, ◌*◌, ◌-◌, leb, ltb, eqb, length, drop}
-use Rattle.moment.specs.Said.{Said, gives, refuses}
+use Rattle.std.specs.Prelude.{◌≡◌, Option, Some, None, Bool, true, false, cond, ◌&&◌, ◌||◌, List, [], ◌∷◌, ◌++◌, ℕ, ◌+◌, ◌*◌, ◌-◌, leb, ltb, eqb, length}
+use Rattle.std.specs.Borrow.{Bor}
+use Rattle.refusal.specs.Said.{Said, gives, refuses}
 use Rattle.moment.specs.Key.{packs}
 use Rattle.moment.specs.declared.Fields.{Fields}
 use Rattle.moment.specs.declared.Moment.{Moment}
 use Rattle.exif.specs.Forms.{blank, nul}
 use Rattle.exif.specs.Reading.{is_digit, reads_text}
-use Rattle.lines.specs.declared.Number.{Number}
-use Rattle.lines.specs.declared.Number.TheVariants.{Value, Bad}
-use Rattle.lines.specs.declared.LineRead.{LineRead}
-use Rattle.lines.specs.declared.LineRead.TheVariants.{Key, Refused}
 
 -- whether a byte of the list is this one
 unfoldable pub has : ℕ → List ℕ → Bool
@@ -80,18 +77,7 @@ pub record Formed (line : List ℕ) (camera n : ℕ) (text : List ℕ) : Type 0 
 
 -- the fields of a frame: the moment of its text, hundredth 0
 unfoldable pub fields_for : Moment → ℕ → ℕ → Fields
-fields_for m camera n =
-    record {
-      year = m.year;
-      month = m.month;
-      day = m.day;
-      hour = m.hour;
-      minute = m.minute;
-      second = m.second;
-      hundredth = 0;
-      camera = camera;
-      number = n;
-    }
+fields_for m camera n = record { moment = m; hundredth = 0; camera = camera; number = n }
 
 -- the key of a text that is read, or the text's refusal
 abbrev pub keyed : ℕ → ℕ → Said Moment → Said ℕ
@@ -107,16 +93,7 @@ form_says broken = refuses 10
 unfoldable pub line_says : List ℕ → Said ℕ
 line_says line = form_says (form_of line)
 
--- what the answer of the code says
-abbrev pub line_read_says : LineRead → Said ℕ
-line_read_says (Key key) = gives key
-line_read_says (Refused n) = refuses n
-
--- what the code's answer for a number at a place of a line says, and the place behind its blank
-abbrev pub number_says : Number → List ℕ → Front
-number_says (Value v next) line = number v (drop next line)
-number_says Bad line = none
-
-abbrev pub next_of : Number → ℕ
-next_of (Value v next) = next
-next_of Bad = 0
+-- what the code's answer says, for a number at the front and what stands behind its blank
+abbrev pub number_says : Option (ℕ × Bor (List ℕ)) → Front
+number_says (Some p) = number p.0 p.1.now
+number_says None = none

@@ -1,15 +1,18 @@
 -- A plan's locks come first, and `locks_of` is how many they are: so the actions done after them hold nothing, and nothing is given
 -- up for them.
 -- Assumes nothing.
-use mathlib.Core.Path.{◌≡◌, refl, sym, ◌∙◌}
-use mathlib.Core.Bool.{Bool, true, false, cond, and-true}
+use mathlib.Core.Path.{◌≡◌, sym, ap, ◌∙◌}
+use mathlib.Core.Bool.{false, ◌&&◌, and-true}
+use Rattle.std.proofs.Math.Bool.{and-false}
 use mathlib.Core.List.{List, [], ◌∷◌}
+use Rattle.std.specs.Prelude.{min, ◌⊎◌}
+use Rattle.std.proofs.Math.Nat.{min-eq_left, min-eq_right, min-le_right}
+use Rattle.std.proofs.lemmas.Bool.{cases_lt}
+use mathlib.Core.Logic.{inl, inr}
 use Prim.Native.Nat.{ℕ, zero, suc, ◌≤◌, ◌<◌}
 use native.Mathlib.Omega.{arith}
 use native.Mathlib.Decide.{ℕ_discrete}
-use lib.Dec.{leb}
 use lib.ListN.{get_or, length}
-use borrow.Author.Tests.{leb-true, leb-false}
 use Rattle.protocol.specs.Plan.{plan, action_at}
 use Rattle.protocol.specs.Locks.{held_one, release_one, all_held, released}
 use Rattle.protocol.specs.declared.Phase.{Phase}
@@ -21,7 +24,6 @@ use Rattle.plan.specs.Holds.{hold_in}
 use Rattle.protocol.proofs.Together.Wishes.{All}
 use Rattle.plan.proofs.Actions.{all_at}
 use Rattle.locks.specs.Holding.{held_by, freed_by}
-use Rattle.locks.specs.Taking.{at_most}
 use Rattle.locks.proofs.Takes.{Frees, Takes, free_held, free_released, lock_held, lock_freed}
 
 -- a plan without its first n actions
@@ -103,17 +105,27 @@ held_at ws p i h = lock_held ws (action_at p i) (before_stores p i h)
 pub freed_at : (ws : List ℕ) (p : Phase) (i : ℕ) → i < locks_of p → freed_by ws (hold_in (action_at p i)) ≡ release_one ws (action_at p i)
 freed_at ws p i h = lock_freed ws (action_at p i) (before_stores p i h)
 
-pub at_most_le : (n most : ℕ) → at_most n most ≤ most
-at_most_le n most = go (leb n most) refl
-  where
-    go : (b : Bool) → leb n most ≡ b → cond b n most ≤ most
-    go true e = leb-true n most e
-    go false e = omega arith
-
 -- SO GIVING UP NEED NOT ASK FOR MORE
-pub locks_first : (ws : List ℕ) (p : Phase) (n : ℕ) → Same ws p (at_most n (locks_of p)) n
-locks_first ws p n = go (leb n (locks_of p)) refl
+pub locks_first : (ws : List ℕ) (p : Phase) (n : ℕ) → Same ws p (min n (locks_of p)) n
+locks_first ws p n = go (cases_lt n (locks_of p))
   where
-    go : (b : Bool) → leb n (locks_of p) ≡ b → Same ws p (cond b n (locks_of p)) n
-    go true e = (refl, refl)
-    go false e = let l = leb-false n (locks_of p) e in beyond_locks ws p n (omega (arith, l))
+    go : (n < locks_of p) ⊎ (locks_of p ≤ n) → Same ws p (min n (locks_of p)) n
+    go (inl l) = let e : min n (locks_of p) ≡ n = min-eq_left (omega (arith, l)) in (ap (all_held ws p) e, ap (released ws p) e)
+    go (inr l) =
+        let e : min n (locks_of p) ≡ locks_of p = min-eq_right l in
+        let s = beyond_locks ws p n l in
+        (ap (all_held ws p) e ∙ s.0, ap (released ws p) e ∙ s.1)
+
+-- one lock that is not held is enough to refuse
+pub not_held : (ws : List ℕ) (p : Phase) (n i : ℕ) → i < n → held_one ws (action_at p i) ≡ false → all_held ws p n ≡ false
+unfolding all_held
+not_held ws p zero i l e = absurd (omega (arith, l))
+not_held ws p (suc n) i l e = go (ℕ_discrete i n) (λ m. not_held ws p n i m e)
+  where
+    go : Dec (i ≡ n) → (i < n → all_held ws p n ≡ false) → (all_held ws p n && held_one ws (action_at p n)) ≡ false
+    go (yes d) r = let f : held_one ws (action_at p n) ≡ false = rw d at e in rw f (and-false (all_held ws p n))
+    go (no d) r = rw (r (omega (arith, l, d)))
+
+-- a place before both is a lock's
+pub within : (i done : ℕ) (p : Phase) (m : ℕ) → m ≡ min done (locks_of p) → i < m → i < locks_of p
+within i done p m e l = let r = min-le_right done (locks_of p) in omega (arith, e, l)

@@ -4,6 +4,8 @@ use mathlib.Core.Path.{◌≡◌, sym, ◌∙◌}
 use mathlib.Core.Bool.{Bool}
 use mathlib.Core.List.{List}
 use Prim.Native.Nat.{ℕ}
+use Rattle.std.specs.Prelude.{Result}
+use Rattle.refusal.specs.declared.Refusal.{Refusal}
 use Rattle.table.specs.declared.Which.{Which}
 use Rattle.protocol.specs.Locks.{all_held, released}
 use Rattle.protocol.specs.declared.Phase.{Phase}
@@ -25,7 +27,7 @@ pub give_up_one : (ws : List ℕ) (phase : Phase) (done : ℕ) (a b : Bool) (x y
     → (a ≡ all_held ws phase done) × (x ≡ given_up ws phase done) → (b ≡ all_held ws phase done) × (y ≡ given_up ws phase done) → (a ≡ b) × (x ≡ y)
 give_up_one ws phase done a b x y p q = both_one (all_held ws phase done) (given_up ws phase done) a b x y p q
 
-pub take_lock_one : (ws : List ℕ) (slot : ℕ) (which : Which) (write : Bool) (state : ℕ) (links : Links) (a b : Acted) (x y : List ℕ)
+pub take_lock_one : (ws : List ℕ) (slot : ℕ) (which : Which) (write : Bool) (state : ℕ) (links : Links) (a b : Result Acted Refusal) (x y : List ℕ)
     → let d = take_lock ws slot which write state links in (a ≡ d.said) × (x ≡ d.words) → (b ≡ d.said) × (y ≡ d.words) → (a ≡ b) × (x ≡ y)
 take_lock_one ws slot which write state links a b x y p q =
     let d = take_lock ws slot which write state links in both_one d.said d.words a b x y p q

@@ -2,25 +2,26 @@
 // definition, its part before a phase is settled (specs/Taking.antt), or that of one hold (specs/Holding.antt).
 #![tactic(auto)]
 
-ghost use Rattle.std.specs.Prelude.{◌≡◌, ◌-◌};
+ghost use Rattle.std.specs.Prelude.{◌≡◌};
 ghost use Rattle.protocol.specs.Locks.{state_fits, links_fit, clear, holds, weight, crowded, granted, all_held, released};
 ghost use Rattle.locks.specs.Holding.{held_by, freed_by};
-ghost use Rattle.locks.specs.Taking.{at_most, given_up, take_lock, TakenBy};
+ghost use Rattle.locks.specs.Taking.{given_up, take_lock, TakenBy};
 
 use plan::{Hold, PRESENT};
 use protocol::{Answer, Links, Phase};
+use refusal::Refusal;
 use table::{DELETED, Which};
 
-// What an action comes to by itself: it is done, its lock is denied, the work ends with an answer, or the step is refused.
-// What becomes of the phase is settled after it, so no phase is handed down.
-#[derive(Clone, Copy)]
+// What an action that is not refused comes to by itself: it is done, its lock is denied, or the work ends with an answer. What
+// becomes of the phase is settled after it, so no phase is handed down.
+#[derive(Clone, Copy, Debug, PartialEq, Eq, Hash)]
 pub enum Acted {
     Done,
     Denied,
     Finished(Answer),
-    Stopped(u64),
 }
 
+#[tactic(auto, unfolding(protocol::specs::Locks::state_fits))]
 fn state_fits(want: u64, s: u64) -> bool
     ensures { result ≡ state_fits want s }
 {
@@ -31,6 +32,7 @@ fn state_fits(want: u64, s: u64) -> bool
     }
 }
 
+#[tactic(auto, unfolding(protocol::specs::Locks::links_fit))]
 fn links_fit(words: &[u64], slot: u64, links: Links) -> bool
     ensures { result ≡ links_fit words.now slot links }
 {
@@ -45,12 +47,14 @@ fn links_fit(words: &[u64], slot: u64, links: Links) -> bool
 }
 
 // No lock conflicts: a writer does with all, a reader with a writer.
+#[tactic(auto, unfolding(protocol::specs::Locks::clear))]
 fn is_clear(write: bool, x: u64) -> bool
     ensures { result ≡ clear write x }
 {
     if write { x == 0 } else { x != 1 }
 }
 
+#[tactic(auto, unfolding(protocol::specs::Locks::holds))]
 fn is_held(write: bool, x: u64) -> bool
     ensures { result ≡ holds write x }
 {
@@ -63,18 +67,14 @@ fn weight_of(write: bool) -> u64
     if write { 1 } else { 2 }
 }
 
+#[tactic(auto, unfolding(protocol::specs::Locks::crowded))]
 fn is_crowded(write: bool, x: u64) -> bool
     ensures { result ≡ crowded write x }
 {
     !write & (32 <= x)
 }
 
-fn less(a: u64, b: u64) -> u64
-    ensures { result ≡ a - b }
-{
-    if a < b { 0 } else { a - b }
-}
-
+#[tactic(auto, unfolding(protocol::specs::Locks::granted))]
 fn is_granted(words: &[u64], slot: u64, which: Which, write: bool, state: u64, links: Links) -> bool
     ensures { result ≡ granted words.now slot which write state links }
 {
@@ -83,6 +83,7 @@ fn is_granted(words: &[u64], slot: u64, which: Which, write: bool, state: u64, l
     state_fits(state, s) & links_fit(words, slot, links) & is_clear(write, x)
 }
 
+#[tactic(auto, unfolding(crate::specs::Holding::held_by))]
 fn held_one(words: &[u64], h: Hold) -> bool
     ensures { result ≡ held_by words.now h }
 {
@@ -93,6 +94,7 @@ fn held_one(words: &[u64], h: Hold) -> bool
     table::pair_fine(words, slot) & is_held(write, x)
 }
 
+#[tactic(auto, unfolding(crate::specs::Holding::freed_by))]
 fn release_one(words: &mut [u64], h: Hold)
     ensures { words.new ≡ freed_by words.old h }
 {
@@ -100,14 +102,8 @@ fn release_one(words: &mut [u64], h: Hold)
     let which = h.which;
     let write = h.write;
     let x = table::lock(words, slot, which);
-    let y = less(x, weight_of(write));
+    let y = x.saturating_sub(weight_of(write));
     table::set_lock(words, slot, which, y);
-}
-
-fn at_most(n: u64, most: u64) -> u64
-    ensures { result ≡ at_most n most }
-{
-    if n <= most { n } else { most }
 }
 
 // Are the locks of the first `done` actions held, in pairs that are fine? The plan's locks come first: no action after them is
@@ -115,26 +111,21 @@ fn at_most(n: u64, most: u64) -> u64
 pub fn all_held(words: &[u64], phase: Phase, done: u64) -> bool
     ensures { result ≡ all_held words.now phase done }
 {
-    let asked = at_most(done, plan::locks_of(phase));
-    let mut ok = true;
-    let mut i: u64 = 0;
-    while i < asked {
-        let h = plan::hold_at(phase, i);
-        ok = ok & held_one(words, h);
-        i += 1;
+    let asked = done.min(plan::locks_of(phase));
+    for i in 0..asked {
+        if !held_one(words, plan::hold_at(phase, i)) {
+            return false;
+        }
     }
-    ok
+    true
 }
 
 pub fn release_all(words: &mut [u64], phase: Phase, done: u64)
     ensures { words.new ≡ released words.old phase done }
 {
-    let held = at_most(done, plan::locks_of(phase));
-    let mut i: u64 = 0;
-    while i < held {
-        let h = plan::hold_at(phase, i);
-        release_one(words, h);
-        i += 1;
+    let held = done.min(plan::locks_of(phase));
+    for i in 0..held {
+        release_one(words, plan::hold_at(phase, i));
     }
 }
 
@@ -150,6 +141,7 @@ pub fn give_up(words: &mut [u64], phase: Phase, done: u64) -> bool
 }
 
 // The lock is taken, denied, or refused 9 where 16 readers hold it.
+#[tactic(auto, using(table::proofs::PairLaws::lock_lt, protocol::proofs::LockLaws::weight_lt), unfolding(crate::specs::Taking::take_lock))]
 pub fn take_lock(
     words: &mut [u64],
     slot: u64,
@@ -157,32 +149,24 @@ pub fn take_lock(
     write: bool,
     state: u64,
     links: Links,
-) -> Acted
+) -> Result<Acted, Refusal>
     ensures { (result ≡ (take_lock words.old slot which write state links).said) × (words.new ≡ (take_lock words.old slot which write state links).words) }
 {
     if !is_granted(words, slot, which, write, state, links) {
-        return Acted::Denied;
+        return Ok(Acted::Denied);
     }
     let x = table::lock(words, slot, which);
     if is_crowded(write, x) {
-        return Acted::Stopped(9);
+        return Err(Refusal::Readers);
     }
     let y = x + weight_of(write);
     table::set_lock(words, slot, which, y);
-    Acted::Done
+    Ok(Acted::Done)
 }
 
-// The numbers of a quick action: what it came to, or nothing where the quick tests do not let it through.
-pub const UNTOLD: u64 = 0;
-
-pub const DONE: u64 = 1;
-
-pub const DENIED: u64 = 2;
-
-pub const FULL: u64 = 3;
-
 // Takes the lock, or finds it denied, where the quick tests let the slot's pair through. Else, and where 16 readers hold it,
-// nothing changes, and the exact way is asked.
+// nothing changes and the answer is None: the caller asks the exact way.
+#[tactic(auto, using(table::proofs::PairLaws::lock_lt, protocol::proofs::LockLaws::weight_lt, crate::proofs::Quick::kept, crate::proofs::Quick::done), unfolding(crate::specs::Taking::take_lock))]
 pub fn take_quick(
     words: &mut [u64],
     slot: u64,
@@ -190,20 +174,20 @@ pub fn take_quick(
     write: bool,
     state: u64,
     links: Links,
-) -> u64
+) -> Option<Acted>
     ensures { TakenBy words.old slot which write state links result words.new }
 {
     if !table::pair_quick(words, slot) {
-        return UNTOLD;
+        return None;
     }
     if !is_granted(words, slot, which, write, state, links) {
-        return DENIED;
+        return Some(Acted::Denied);
     }
     let held = table::lock(words, slot, which);
     if is_crowded(write, held) {
-        return UNTOLD;
+        return None;
     }
     let y = held + weight_of(write);
     table::set_lock(words, slot, which, y);
-    DONE
+    Some(Acted::Done)
 }

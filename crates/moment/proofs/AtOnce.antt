@@ -73,7 +73,7 @@ bounds k h r e =
 
 -- and back: legal fields, counted from their leasts, are the fields of what is left
 counted : Fields → List ℕ
-counted f = (f.year - 1990) ∷ (f.month - 1) ∷ (f.day - 1) ∷ drop 3 (listed f)
+counted f = (f.moment.year - 1990) ∷ (f.moment.month - 1) ∷ (f.moment.day - 1) ∷ drop 3 (listed f)
 
 left : (k : ℕ) → Ranges (fields_of (k + first_key)) → k + first_key < 2 ^ 64 → dec key_layout k ≡ counted (fields_of (k + first_key))
 unfolding counted key_of_fields

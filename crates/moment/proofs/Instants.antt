@@ -29,12 +29,14 @@ fields_at n camera number h c k = at (date_of (n / 100 / 60 / 60 / 24) (omega ar
     made : DateOf (n / 100 / 60 / 60 / 24) → Fields
     made d =
         record {
-          year = d.year;
-          month = d.month;
-          day = d.day;
-          hour = n / 100 / 60 / 60 % 24;
-          minute = n / 100 / 60 % 60;
-          second = n / 100 % 60;
+          moment = record {
+            year = d.year;
+            month = d.month;
+            day = d.day;
+            hour = n / 100 / 60 / 60 % 24;
+            minute = n / 100 / 60 % 60;
+            second = n / 100 % 60;
+          };
           hundredth = n % 100;
           camera = camera;
           number = number;

@@ -4,11 +4,13 @@ use mathlib.Core.Path.{◌≡◌, sym, ◌∙◌}
 use mathlib.Core.Bool.{Bool}
 use Prim.Native.Nat.{ℕ}
 use Rattle.moment.specs.Calendar.{leap_of, days_in, date_exists, time_exists, moment_exists}
-use Rattle.moment.specs.Key.{moment_of, in_range, packed_says, packs, fields_of, legal_of}
+use Rattle.moment.specs.Key.{moment_of, in_range, packs, fields_of, legal_of}
 use Rattle.moment.specs.declared.Fields.{Fields}
 use Rattle.moment.specs.declared.Moment.{Moment}
-use Rattle.moment.specs.declared.Packed.{Packed}
-use Rattle.moment.proofs.Packing.{packed_one}
+use Rattle.refusal.specs.Said.{said}
+use Rattle.refusal.specs.declared.Refusal.{Refusal}
+use Rattle.refusal.proofs.SaidLaws.{said_one}
+use Rattle.std.specs.Prelude.{Result}
 
 pub leap_one : (year : ℕ) (a b : Bool) → a ≡ leap_of year → b ≡ leap_of year → a ≡ b
 leap_one year a b p q = p ∙ sym q
@@ -37,5 +39,5 @@ unpack_one key a b p q = p ∙ sym q
 pub legal_one : (key : ℕ) (a b : Bool) → a ≡ legal_of key → b ≡ legal_of key → a ≡ b
 legal_one key a b p q = p ∙ sym q
 
-pub pack_one : (f : Fields) (a b : Packed) → packed_says a ≡ packs f → packed_says b ≡ packs f → a ≡ b
-pack_one f a b p q = packed_one a b (p ∙ sym q)
+pub pack_one : (f : Fields) (a b : Result ℕ Refusal) → said a ≡ packs f → said b ≡ packs f → a ≡ b
+pack_one f a b p q = said_one a b (p ∙ sym q)

@@ -48,7 +48,7 @@ peel w g g' x x' p p' e =
 -- the seven fields of the time, side by side, as a key has them
 abbrev time_bits : Fields → ℕ
 time_bits f =
-    (((date_bits f.year f.month f.day * 32 + f.hour) * 64 + f.minute) * 64 + f.second) * 128 + f.hundredth
+    (((date_bits f.moment.year f.moment.month f.moment.day * 32 + f.moment.hour) * 64 + f.moment.minute) * 64 + f.moment.second) * 128 + f.hundredth
 
 -- they go with the instant
 goes : (f g : Fields) → Ranges f → Ranges g → Goes (time_bits f) (time_bits g) (instant_of_fields f) (instant_of_fields g)
@@ -60,7 +60,7 @@ goes f g a b =
     (digit 24 32 (omega arith) (omega arith) (omega arith)
     (record { up = day_order a.on b.on; same = dates }))))
   where
-    dates : date_bits f.year f.month f.day ≡ date_bits g.year g.month g.day → day_number f.year f.month f.day ≡ day_number g.year g.month g.day
+    dates : date_bits f.moment.year f.moment.month f.moment.day ≡ date_bits g.moment.year g.moment.month g.moment.day → day_number f.moment.year f.moment.month f.moment.day ≡ day_number g.moment.year g.moment.month g.moment.day
     dates e =
         let ma = month_of a.on in
         let mb = month_of b.on in

@@ -10,11 +10,9 @@ use native.Mathlib.Omega.{arith}
 use lib.ListN.{get_or}
 use borrow.Author.Tests.{lt-ltb}
 use Rattle.layout.proofs.LayoutLaws.{dec_enc, enc_dec, enc_lt}
-use Rattle.moment.specs.Said.{gives, refuses}
-use Rattle.moment.specs.Key.{key_layout, listed, in_range, key_of_fields, fields_of, legal_of, packs, packed_says}
+use Rattle.refusal.specs.Said.{gives, refuses}
+use Rattle.moment.specs.Key.{key_layout, listed, in_range, key_of_fields, fields_of, legal_of, packs}
 use Rattle.moment.specs.declared.Fields.{Fields}
-use Rattle.moment.specs.declared.Packed.{Packed}
-use Rattle.moment.specs.declared.Packed.TheVariants.{Key, Refused}
 use Rattle.moment.proofs.Tests.{tests}
 use Rattle.moment.proofs.Ranges.{ranges, fits}
 
@@ -22,12 +20,14 @@ use Rattle.moment.proofs.Ranges.{ranges, fits}
 abbrev unlisted : List ℕ → Fields
 unlisted l =
     record {
-      year = get_or l 0 0;
-      month = get_or l 1 0;
-      day = get_or l 2 0;
-      hour = get_or l 3 0;
-      minute = get_or l 4 0;
-      second = get_or l 5 0;
+      moment = record {
+        year = get_or l 0 0;
+        month = get_or l 1 0;
+        day = get_or l 2 0;
+        hour = get_or l 3 0;
+        minute = get_or l 4 0;
+        second = get_or l 5 0;
+      };
       hundredth = get_or l 6 0;
       camera = get_or l 7 0;
       number = get_or l 8 0;
@@ -80,10 +80,3 @@ one_key f g a b e = sym (unpack_pack f a) ∙ ap fields_of e ∙ unpack_pack g b
 pub one_fields : (j k : ℕ) → legal_of j ≡ true → legal_of k ≡ true → fields_of j ≡ fields_of k → j ≡ k
 one_fields j k a b e =
     sym (pack_unpack j ((legal_is j).0 a).0) ∙ ap key_of_fields e ∙ pack_unpack k ((legal_is k).0 b).0
-
--- one outcome: two answers of `pack` that say the same are the same
-pub packed_one : (p q : Packed) → packed_says p ≡ packed_says q → p ≡ q
-packed_one (Key j) (Key k) e = cc
-packed_one (Key j) (Refused n) e = cc
-packed_one (Refused m) (Key k) e = cc
-packed_one (Refused m) (Refused n) e = cc

@@ -31,10 +31,10 @@ date year month day e =
     }
 
 pub record Ranges (f : Fields) : Type 0 where
-  pub on : Date f.year f.month f.day
-  pub hour : f.hour ≤ 23
-  pub minute : f.minute ≤ 59
-  pub second : f.second ≤ 59
+  pub on : Date f.moment.year f.moment.month f.moment.day
+  pub hour : f.moment.hour ≤ 23
+  pub minute : f.moment.minute ≤ 59
+  pub second : f.moment.second ≤ 59
   pub hundredth : f.hundredth ≤ 99
   pub camera : f.camera ≤ 31
   pub number : f.number ≤ 9999
@@ -93,3 +93,6 @@ month_of {year} {month} d = ⊎_elim (λ e. absurd (omega (arith, d.first, d.las
 
 pub fits : (f : Fields) → Ranges f → Fit key_layout (listed f)
 fits f r = omega (arith, r.on, month_of r.on)
+
+pub fits_in_range : (f : Fields) → in_range f ≡ true → Fit key_layout (listed f)
+fits_in_range f e = fits f (ranges f e)

@@ -22,7 +22,8 @@ day_number year month day = days_of_years (year - 1990) + days_of_months year (m
 -- 24 hours a day, 60 minutes an hour, 60 seconds a minute, 100 hundredths a second
 unfoldable pub instant_of_fields : Fields → ℕ
 instant_of_fields f =
-    (((day_number f.year f.month f.day * 24 + f.hour) * 60 + f.minute) * 60 + f.second) * 100 + f.hundredth
+    let m = f.moment in
+    (((day_number m.year m.month m.day * 24 + m.hour) * 60 + m.minute) * 60 + m.second) * 100 + f.hundredth
 
 unfoldable pub instant_of : ℕ → ℕ
 instant_of key = instant_of_fields (fields_of key)

@@ -2,12 +2,10 @@
 -- Assumes nothing.
 use Rattle.std.specs.Prelude.{Bool, cond, ◌&&◌, List, [], ◌∷◌, ℕ, ◌*◌, ◌^◌, leb, ltb}
 use Rattle.layout.specs.Layout.{pos, fld, enc}
-use Rattle.moment.specs.Said.{Said, gives, refuses}
+use Rattle.refusal.specs.Said.{Said, gives, refuses}
 use Rattle.moment.specs.Calendar.{moment_exists}
 use Rattle.moment.specs.declared.Fields.{Fields}
 use Rattle.moment.specs.declared.Moment.{Moment}
-use Rattle.moment.specs.declared.Packed.{Packed}
-use Rattle.moment.specs.declared.Packed.TheVariants.{Key, Refused}
 
 -- year 12 bits, month 4, day 5, hour 5, minute 6, second 6, hundredth 7, camera 5, file number 14
 abbrev pub key_layout : List ℕ
@@ -16,19 +14,12 @@ key_layout = 12 ∷ 4 ∷ 5 ∷ 5 ∷ 6 ∷ 6 ∷ 7 ∷ 5 ∷ 14 ∷ []
 -- the fields in that order
 abbrev pub listed : Fields → List ℕ
 listed f =
-    f.year ∷ f.month ∷ f.day ∷ f.hour ∷ f.minute ∷ f.second ∷ f.hundredth ∷ f.camera ∷ f.number ∷ []
+    let m = f.moment in
+    m.year ∷ m.month ∷ m.day ∷ m.hour ∷ m.minute ∷ m.second ∷ f.hundredth ∷ f.camera ∷ f.number ∷ []
 
 -- their date and time of day
 unfoldable pub moment_of : Fields → Moment
-moment_of f =
-    record {
-      year = f.year;
-      month = f.month;
-      day = f.day;
-      hour = f.hour;
-      minute = f.minute;
-      second = f.second;
-    }
+moment_of f = f.moment
 
 -- a moment that exists, hundredth to 99, camera to 31, file number to 9999
 unfoldable pub in_range : Fields → Bool
@@ -43,12 +34,14 @@ key_of_fields f = enc key_layout (listed f)
 unfoldable pub fields_of : ℕ → Fields
 fields_of key =
     record {
-      year = fld key_layout 0 key;
-      month = fld key_layout 1 key;
-      day = fld key_layout 2 key;
-      hour = fld key_layout 3 key;
-      minute = fld key_layout 4 key;
-      second = fld key_layout 5 key;
+      moment = record {
+        year = fld key_layout 0 key;
+        month = fld key_layout 1 key;
+        day = fld key_layout 2 key;
+        hour = fld key_layout 3 key;
+        minute = fld key_layout 4 key;
+        second = fld key_layout 5 key;
+      };
       hundredth = fld key_layout 6 key;
       camera = fld key_layout 7 key;
       number = fld key_layout 8 key;
@@ -68,8 +61,3 @@ years_of_keys = 1010 * 2 ^ pos key_layout 0
 -- packing: the key, or 3 for fields out of range
 unfoldable pub packs : Fields → Said ℕ
 packs f = cond (in_range f) (gives (key_of_fields f)) (refuses 3)
-
--- what `pack`'s answer says
-abbrev pub packed_says : Packed → Said ℕ
-packed_says (Key key) = gives key
-packed_says (Refused n) = refuses n

@@ -1,4 +1,3 @@
-pub mod Said
 pub mod Calendar
 pub mod Key
 pub mod Instant

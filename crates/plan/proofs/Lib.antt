@@ -1,6 +1,5 @@
 pub mod Actions
-pub mod DueLaws
 pub mod HoldLaws
-pub mod LiftLaws
 pub mod RoleLaws
 pub mod OneOutcome
+pub mod StoreLaws

@@ -4,19 +4,14 @@
 use mathlib.Core.Path.{◌≡◌, refl, sym, ap, ◌∙◌}
 use mathlib.Core.Bool.{Bool, true, false, not, ◌&&◌, ◌||◌, and-eq-true_iff}
 use mathlib.Core.Logic.{◌↔◌, ◌≢◌}
-use mathlib.Core.List.{[], ◌∷◌}
 use Prim.Native.Nat.{ℕ, zero, suc, ◌<◌}
 use native.Mathlib.Omega.{arith}
 use lib.Dec.{ltb, eqb}
 use borrow.Author.Tests.{eqb-false, ne_eqb, not-true}
-use types.Run.{OneOf, miss}
-use denote.Enum.Declared.{tag_of}
 use Rattle.moment.proofs.Tests.{ltb_iff, eqb_iff}
-use Rattle.protocol.specs.contracts.Phase.{the_type}
 use Rattle.protocol.specs.Record.{slot, roles}
-use Rattle.protocol.specs.declared.Kind.TheVariants.{Lookup, Insert, Remove}
-use Rattle.protocol.specs.declared.Phase.{Phase}
-use Rattle.protocol.specs.declared.Phase.TheVariants.{Walk, OnRouting, New, Two, One, Leaf, UnderData, UnderRouting}
+use Rattle.protocol.specs.declared.Kind.TheVariants.{Lookup, Remove}
+use Rattle.protocol.specs.declared.Phase.TheVariants.{Walk, One, Leaf, UnderRouting}
 
 ne_iff : (a b : ℕ) → (not (eqb a b) ≡ true) ↔ (a ≢ b)
 ne_iff a b = (λ e. eqb-false a b (not-true (eqb a b) e), λ d. ap not (ne_eqb a b d))
@@ -129,38 +124,3 @@ under_law n this prev before other done side up v w e e' = same _
     let t = of_three n this prev before e h.0.0.0.0.0.0.0.0.0.1.0 ((((((h.0.0.0.0.0.0.0.0.0.0.1, h.0.0.0.0.0.0.0.0.0.1.1), h.0.0.0.0.0.0.0.0.1), h.0.0.0.0.0.0.0.0.0.0.0), h.0.0.0.0.0.0.1), h.0.0.0.0.0.1), h.0.0.0.1) in
     let u = of_three n this other prev e' h.0.0.0.0.0.0.0.1.0 ((((((h.0.0.0.0.0.0.0.0.0.0.1, h.0.0.0.0.0.0.0.1.1), h.0.0.0.0.0.0.0.0.0.1.1), h.0.0.0.0.0.0.0.0.0.0.0), h.0.0.0.0.1), h.0.0.0.0.0.0.1), λ z. h.0.0.1 (sym z)) in
     simp facts (((((h.0.0.0.0.0.0.0.0.0.1.0, h.0.0.0.0.0.0.0.1.0), t), u), h.0.1), h.1))
-
--- What `_` leaves of a `match`: the other phases, by their places in the enum
-
-pub lookup_other : (n : ℕ) (p : Phase) → OneOf (1 ∷ 2 ∷ 3 ∷ 4 ∷ 5 ∷ 6 ∷ 7 ∷ []) (tag_of the_type p) → false ≡ roles n Lookup p
-unfolding roles
-lookup_other n (Walk at prev before side up) t = absurd (miss (1 ∷ 2 ∷ 3 ∷ 4 ∷ 5 ∷ 6 ∷ 7 ∷ []) 0 tt t)
-lookup_other n (OnRouting this done) t = refl
-lookup_other n (New prev side done) t = refl
-lookup_other n (Two this done) t = refl
-lookup_other n (One this prev side child toward done) t = refl
-lookup_other n (Leaf this prev side before up) t = refl
-lookup_other n (UnderData this prev side done) t = refl
-lookup_other n (UnderRouting this prev side before up other done) t = refl
-
-pub insert_other : (n : ℕ) (p : Phase) → OneOf (0 ∷ 3 ∷ 4 ∷ 5 ∷ 6 ∷ 7 ∷ []) (tag_of the_type p) → roles n Lookup p ≡ roles n Insert p
-unfolding roles
-insert_other n (Walk at prev before side up) t = refl
-insert_other n (OnRouting this done) t = absurd (miss (0 ∷ 3 ∷ 4 ∷ 5 ∷ 6 ∷ 7 ∷ []) 1 tt t)
-insert_other n (New prev side done) t = absurd (miss (0 ∷ 3 ∷ 4 ∷ 5 ∷ 6 ∷ 7 ∷ []) 2 tt t)
-insert_other n (Two this done) t = refl
-insert_other n (One this prev side child toward done) t = refl
-insert_other n (Leaf this prev side before up) t = refl
-insert_other n (UnderData this prev side done) t = refl
-insert_other n (UnderRouting this prev side before up other done) t = refl
-
-pub remove_other : (n : ℕ) (p : Phase) → OneOf (0 ∷ 1 ∷ 2 ∷ []) (tag_of the_type p) → roles n Lookup p ≡ roles n Remove p
-unfolding roles
-remove_other n (Walk at prev before side up) t = refl
-remove_other n (OnRouting this done) t = refl
-remove_other n (New prev side done) t = refl
-remove_other n (Two this done) t = absurd (miss (0 ∷ 1 ∷ 2 ∷ []) 3 tt t)
-remove_other n (One this prev side child toward done) t = absurd (miss (0 ∷ 1 ∷ 2 ∷ []) 4 tt t)
-remove_other n (Leaf this prev side before up) t = absurd (miss (0 ∷ 1 ∷ 2 ∷ []) 5 tt t)
-remove_other n (UnderData this prev side done) t = absurd (miss (0 ∷ 1 ∷ 2 ∷ []) 6 tt t)
-remove_other n (UnderRouting this prev side before up other done) t = absurd (miss (0 ∷ 1 ∷ 2 ∷ []) 7 tt t)

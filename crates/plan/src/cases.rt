@@ -1,47 +1,36 @@
 // The plan of each case, one function a case in document 01's order.
+#![tactic(auto, using(protocol::proofs::PlanLaws::past, protocol::proofs::PlanLaws::beyond), unfolding(protocol::specs::Plan::plan, protocol::specs::Plan::action_at))]
+
 ghost use Rattle.std.specs.Prelude.{◌≡◌};
-ghost use Rattle.protocol.specs.Plan.{action_at, write_edge, read_edge, write_state, read_state};
+ghost use Rattle.table.specs.declared.Which.TheVariants.{State, Edge};
+ghost use Rattle.protocol.specs.Plan.{present, action_at};
+ghost use Rattle.protocol.specs.declared.Action.TheVariants.{Lock};
+ghost use Rattle.protocol.specs.declared.Links.TheVariants.{Is};
 ghost use Rattle.plan.specs.Lifts.{Lifts};
 ghost use Rattle.protocol.specs.declared.Phase.TheVariants.{Walk, OnRouting, New, Two, One, Leaf, UnderData, UnderRouting};
 
-use crate::PRESENT;
+use crate::{PRESENT, READ, WRITE};
 use protocol::{Action, Links, Phase};
 use table::{DATA, DELETED, ROUTING, Which};
 
-fn write_edge(slot: u64, side: bool, child: u64) -> Action
-    ensures { result ≡ write_edge slot side child }
+// A lock on the edge to that child; its slot is not deleted.
+fn edge(slot: u64, side: bool, write: bool, child: u64) -> Action
+    ensures { result ≡ Lock slot (Edge side) write present (Is side child) }
 {
     Action::Lock(
         slot,
         Which::Edge(side),
-        true,
+        write,
         PRESENT,
         Links::Is(side, child),
     )
 }
 
-fn read_edge(slot: u64, side: bool, child: u64) -> Action
-    ensures { result ≡ read_edge slot side child }
+// A lock on the state.
+fn state(slot: u64, write: bool, state: u64, links: Links) -> Action
+    ensures { result ≡ Lock slot State write state links }
 {
-    Action::Lock(
-        slot,
-        Which::Edge(side),
-        false,
-        PRESENT,
-        Links::Is(side, child),
-    )
-}
-
-fn write_state(slot: u64, state: u64, links: Links) -> Action
-    ensures { result ≡ write_state slot state links }
-{
-    Action::Lock(slot, Which::State, true, state, links)
-}
-
-fn read_state(slot: u64, state: u64) -> Action
-    ensures { result ≡ read_state slot state }
-{
-    Action::Lock(slot, Which::State, false, state, Links::Any)
+    Action::Lock(slot, Which::State, write, state, links)
 }
 
 // The walk: one slot.
@@ -59,7 +48,7 @@ pub fn on_routing_at(this: u64, i: u64) -> Action
     ensures { result ≡ action_at (OnRouting this 0) i }
 {
     match i {
-        0 => write_state(this, ROUTING, Links::Any),
+        0 => state(this, WRITE, ROUTING, Links::Any),
         1 => Action::Mark(this, DATA),
         2 => Action::End,
         _ => Action::Beyond,
@@ -71,8 +60,8 @@ pub fn new_at(prev: u64, side: bool, i: u64) -> Action
     ensures { result ≡ action_at (New prev side 0) i }
 {
     match i {
-        0 => write_edge(prev, side, 0),
-        1 => read_state(prev, PRESENT),
+        0 => edge(prev, side, WRITE, 0),
+        1 => state(prev, READ, PRESENT, Links::Any),
         2 => Action::Take(prev, side),
         3 => Action::End,
         _ => Action::Beyond,
@@ -84,7 +73,7 @@ pub fn two_at(this: u64, i: u64) -> Action
     ensures { result ≡ action_at (Two this 0) i }
 {
     match i {
-        0 => write_state(this, DATA, Links::Both),
+        0 => state(this, WRITE, DATA, Links::Both),
         1 => Action::Mark(this, ROUTING),
         2 => Action::End,
         _ => Action::Beyond,
@@ -96,9 +85,9 @@ pub fn one_at(this: u64, prev: u64, side: bool, child: u64, toward: bool, i: u64
     ensures { result ≡ action_at (One this prev side child toward 0) i }
 {
     match i {
-        0 => read_edge(this, toward, child),
-        1 => write_edge(prev, side, this),
-        2 => write_state(this, DATA, Links::Is(!toward, 0)),
+        0 => edge(this, toward, READ, child),
+        1 => edge(prev, side, WRITE, this),
+        2 => state(this, WRITE, DATA, Links::Is(!toward, 0)),
         3 => Action::Mark(this, DELETED),
         4 => Action::Link(prev, side, child),
         5 => Action::End,
@@ -121,9 +110,9 @@ pub fn under_data_at(this: u64, prev: u64, side: bool, i: u64) -> Action
     ensures { result ≡ action_at (UnderData this prev side 0) i }
 {
     match i {
-        0 => write_edge(prev, side, this),
-        1 => write_state(this, DATA, Links::Neither),
-        2 => read_state(prev, DATA),
+        0 => edge(prev, side, WRITE, this),
+        1 => state(this, WRITE, DATA, Links::Neither),
+        2 => state(prev, READ, DATA, Links::Any),
         3 => Action::Mark(this, DELETED),
         4 => Action::Link(prev, side, 0),
         5 => Action::End,
@@ -144,11 +133,11 @@ pub fn under_routing_at(
     ensures { result ≡ action_at (UnderRouting this prev side before up other 0) i }
 {
     match i {
-        0 => write_edge(prev, side, this),
-        1 => write_state(this, DATA, Links::Neither),
-        2 => read_edge(prev, !side, other),
-        3 => write_edge(before, up, prev),
-        4 => write_state(prev, ROUTING, Links::Any),
+        0 => edge(prev, side, WRITE, this),
+        1 => state(this, WRITE, DATA, Links::Neither),
+        2 => edge(prev, !side, READ, other),
+        3 => edge(before, up, WRITE, prev),
+        4 => state(prev, WRITE, ROUTING, Links::Any),
         5 => Action::Mark(this, DELETED),
         6 => Action::Mark(prev, DELETED),
         7 => Action::Link(before, up, other),

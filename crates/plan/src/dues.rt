@@ -2,6 +2,10 @@
 // numbers. Each phase that counts its actions has a function by numbers: whoever has taken the phase apart asks it
 // without the phase. What `_` leaves: phases that walk, that look, or that are of another kind of work; of these none
 // is due.
+// Kept: what a phase notes is handed on number by number, here as in `cases`, `holds` and `roles`: a step of a plan has the
+// numbers in its words, and takes some fifty instructions more where it builds the phase first.
+#![tactic(auto, unfolding(crate::specs::Due::due_of, crate::specs::Due::due_at, protocol::specs::Record::roles, protocol::specs::Plan::plan, protocol::specs::Plan::action_at))]
+
 ghost use Rattle.std.specs.Prelude.{◌≡◌, cond};
 ghost use Rattle.protocol.specs.declared.Kind.TheVariants.{Insert, Remove};
 ghost use Rattle.protocol.specs.declared.Phase.TheVariants.{OnRouting, New, Two, One, UnderData, UnderRouting};

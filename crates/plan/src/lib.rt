@@ -24,9 +24,16 @@ mod holds;
 mod roles;
 
 // As an expected state: not deleted.
+// Kept: a number, not an `Option`: it stands in `Action::Lock`, where `protocol` has the number of a state.
 pub const PRESENT: u64 = 0;
 
+// How a lock is held.
+const READ: bool = false;
+
+const WRITE: bool = true;
+
 // The plan: the action at a place.
+#[tactic(auto, unfolding(protocol::specs::Plan::plan, protocol::specs::Plan::action_at))]
 pub fn action_at(phase: Phase, i: u64) -> Action
     ensures { result ≡ action_at phase i }
 {
@@ -59,6 +66,7 @@ pub fn action_at(phase: Phase, i: u64) -> Action
 }
 
 // The action that is due in a phase that neither walks nor looks, where its roles are fine.
+#[tactic(auto, unfolding(crate::specs::Due::due_of, crate::specs::Due::due_at, protocol::specs::Record::roles))]
 pub fn due(n: u64, kind: Kind, phase: Phase) -> Action
     ensures { result ≡ due_of n kind phase }
 {
@@ -93,78 +101,24 @@ pub fn done_of(phase: Phase) -> u64
         Phase::One { done, .. } => done,
         Phase::UnderData { done, .. } => done,
         Phase::UnderRouting { done, .. } => done,
-        _ => 0,
+        Phase::Walk { .. } | Phase::Leaf { .. } => 0,
     }
 }
 
 // The phase with n of its actions done.
-pub fn with_done(phase: Phase, n: u64) -> Phase
+pub fn with_done(mut phase: Phase, n: u64) -> Phase
     ensures { result ≡ with_done phase n }
 {
-    match phase {
-        Phase::Walk { .. } => phase,
-        Phase::OnRouting { this, .. } => Phase::OnRouting { this, done: n },
-        Phase::New { prev, side, .. } => Phase::New {
-            prev,
-            side,
-            done: n,
-        },
-        Phase::Two { this, .. } => Phase::Two { this, done: n },
-        Phase::Leaf { .. } => phase,
-        Phase::UnderData {
-            this,
-            prev,
-            side,
-            ..
-        } => Phase::UnderData {
-            this,
-            prev,
-            side,
-            done: n,
-        },
-        _ => lifting_done(phase, n),
+    match &mut phase {
+        Phase::OnRouting { done, .. } => *done = n,
+        Phase::New { done, .. } => *done = n,
+        Phase::Two { done, .. } => *done = n,
+        Phase::One { done, .. } => *done = n,
+        Phase::UnderData { done, .. } => *done = n,
+        Phase::UnderRouting { done, .. } => *done = n,
+        Phase::Walk { .. } | Phase::Leaf { .. } => {}
     }
-}
-
-// The same of a phase that lifts a child.
-fn lifting_done(phase: Phase, n: u64) -> Phase
-    ensures { Lifts phase → result ≡ with_done phase n }
-{
-    match phase {
-        Phase::One {
-            this,
-            prev,
-            side,
-            child,
-            toward,
-            ..
-        } => Phase::One {
-            this,
-            prev,
-            side,
-            child,
-            toward,
-            done: n,
-        },
-        Phase::UnderRouting {
-            this,
-            prev,
-            side,
-            before,
-            up,
-            other,
-            ..
-        } => Phase::UnderRouting {
-            this,
-            prev,
-            side,
-            before,
-            up,
-            other,
-            done: n,
-        },
-        _ => phase,
-    }
+    phase
 }
 
 // How many locks the case takes, before it stores.
@@ -172,13 +126,11 @@ pub fn locks_of(phase: Phase) -> u64
     ensures { result ≡ locks_of phase }
 {
     match phase {
-        Phase::OnRouting { .. } => 1,
+        Phase::OnRouting { .. } | Phase::Two { .. } => 1,
         Phase::New { .. } => 2,
-        Phase::Two { .. } => 1,
-        Phase::One { .. } => 3,
-        Phase::UnderData { .. } => 3,
+        Phase::One { .. } | Phase::UnderData { .. } => 3,
         Phase::UnderRouting { .. } => 5,
-        _ => 0,
+        Phase::Walk { .. } | Phase::Leaf { .. } => 0,
     }
 }
 
@@ -191,13 +143,14 @@ pub struct Hold {
 }
 
 // What the lock at a place holds, of a place before the stores.
+#[tactic(auto, using(crate::proofs::HoldLaws::on_routing_held, crate::proofs::HoldLaws::two_held))]
 pub fn hold_at(phase: Phase, i: u64) -> Hold
     ensures { i < locks_of phase → result ≡ hold_in (action_at phase i) }
 {
     match phase {
-        Phase::OnRouting { this, .. } => holds::state(this, true),
+        Phase::OnRouting { this, .. } => holds::state(this, WRITE),
         Phase::New { prev, side, .. } => holds::new_hold(prev, side, i),
-        Phase::Two { this, .. } => holds::state(this, true),
+        Phase::Two { this, .. } => holds::state(this, WRITE),
         Phase::One {
             this,
             prev,
@@ -219,36 +172,32 @@ pub fn hold_at(phase: Phase, i: u64) -> Hold
             up,
             ..
         } => holds::under_routing_hold(this, prev, side, before, up, i),
-        _ => holds::state(0, true),
+        // They take no lock, and nobody asks.
+        Phase::Walk { .. } | Phase::Leaf { .. } => holds::state(0, WRITE),
     }
 }
 
 fn is_store(a: Action) -> bool
     ensures { result ≡ is_store a }
 {
-    match a {
-        Action::Mark(..) => true,
-        Action::Link(..) => true,
-        Action::Take(..) => true,
-        _ => false,
-    }
+    matches!(a, Action::Mark(..) | Action::Link(..) | Action::Take(..))
 }
 
 // Has one of the first `done` actions stored?
+#[tactic(auto, using(protocol::proofs::LockLaws::stored_none, crate::proofs::StoreLaws::stored_by))]
 pub fn has_stored(phase: Phase, done: u64) -> bool
     ensures { result ≡ stored phase done }
 {
-    let mut any = false;
-    let mut i: u64 = 0;
-    while i < done {
-        let a = action_at(phase, i);
-        any = any | is_store(a);
-        i += 1;
+    for i in 0..done {
+        if is_store(action_at(phase, i)) {
+            return true;
+        }
     }
-    any
+    false
 }
 
 // Is a busy record undamaged, and a worker counted busy?
+#[tactic(auto, unfolding(protocol::specs::Record::record_fine))]
 pub fn record_fine(words: &[u64], kind: Kind, key: u64, phase: Phase) -> bool
     ensures { result ≡ record_fine words.now kind key phase }
 {
@@ -257,20 +206,18 @@ pub fn record_fine(words: &[u64], kind: Kind, key: u64, phase: Phase) -> bool
 }
 
 // The same of a record that walks, whatever its work and the sides.
+#[tactic(auto, unfolding(protocol::specs::Record::record_fine))]
 pub fn walk_fine(words: &[u64], key: u64, at: u64, prev: u64, before: u64) -> bool
     ensures { result ≡ record_fine words.now Lookup key (Walk at prev before true true) }
 {
-    moment::legal(key)
-        & roles::walk_roles(table::slots(words), at, prev, before)
-        & (table::busy(words) != 0)
+    walk_quick(words, key, at, prev, before) & (table::busy(words) != 0)
 }
 
-// The same but for the busy count, for a caller that has judged that with the table.
+// The same but for the busy count, for a caller that has judged that with the table. It is inline: a call of it costs a step
+// of a walk a fifth more.
+#[inline(always)]
 pub fn walk_quick(words: &[u64], key: u64, at: u64, prev: u64, before: u64) -> bool
     ensures { result ≡ (legal_of key && roles (slots_of words.now) Lookup (Walk at prev before true true)) }
 {
-    if !moment::legal(key) {
-        return false;
-    }
-    roles::walk_roles(table::slots(words), at, prev, before)
+    moment::legal(key) && roles::walk_roles(table::slots(words), at, prev, before)
 }

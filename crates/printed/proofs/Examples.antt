@@ -3,7 +3,7 @@
 use mathlib.Core.Path.{◌≡◌, refl}
 use mathlib.Core.List.{List, [], ◌∷◌}
 use Prim.Native.Nat.{ℕ}
-use Rattle.moment.specs.Said.{gives}
+use Rattle.refusal.specs.Said.{gives}
 use Rattle.moment.specs.Calendar.{leap_of, days_in, date_exists, time_exists, moment_exists}
 use Rattle.moment.specs.Key.{moment_of, in_range, key_of_fields, fields_of, packs}
 use Rattle.exif.specs.Forms.{two, four, text}

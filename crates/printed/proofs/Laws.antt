@@ -10,7 +10,7 @@ use lib.Dec.{ltb}
 use lib.ListN.{length, take, drop, length-append, replicate}
 use lib.Seq.{take_at, drop_at}
 use borrow.Author.Tests.{ltb-true}
-use Rattle.moment.specs.Said.{gives}
+use Rattle.refusal.specs.Said.{gives}
 use Rattle.moment.specs.Key.{moment_of, fields_of, legal_of}
 use Rattle.exif.specs.Forms.{digit, blank, nul, two_digit_hour}
 use Rattle.exif.specs.Reading.{reads_text}

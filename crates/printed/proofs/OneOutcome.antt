@@ -5,16 +5,17 @@ use mathlib.Core.List.{List}
 use Prim.Native.Nat.{ℕ}
 use Rattle.layout.specs.Filling.{Put}
 use Rattle.printed.specs.Printing.{frame_line_says, puts_frame, frame_holds}
-use Rattle.printed.specs.declared.FrameLine.{FrameLine}
-use Rattle.printed.specs.declared.FrameLine.TheVariants.{Bytes, Refused}
+use Rattle.std.specs.Prelude.{Result, Ok, Err}
+use Rattle.refusal.specs.declared.Refusal.{Refusal}
+use Rattle.refusal.proofs.SaidLaws.{number_one}
 
-frame_same : (a b : FrameLine) (x : List ℕ) → frame_line_says a x ≡ frame_line_says b x → a ≡ b
-frame_same (Bytes m) (Bytes n) x e = let pair : ◌≡◌ {A = ℕ × List ℕ} (m, x) (n, x) = cc in ap (λ (p : ℕ × List ℕ). Bytes p.0) pair
-frame_same (Bytes m) (Refused n) x e = cc
-frame_same (Refused m) (Bytes n) x e = cc
-frame_same (Refused m) (Refused n) x e = cc
+frame_same : (a b : Result ℕ Refusal) (x : List ℕ) → frame_line_says a x ≡ frame_line_says b x → a ≡ b
+frame_same (Ok m) (Ok n) x e = let pair : ◌≡◌ {A = ℕ × List ℕ} (m, x) (n, x) = cc in ap (λ (p : ℕ × List ℕ). Ok p.0) pair
+frame_same (Ok m) (Err n) x e = cc
+frame_same (Err m) (Ok n) x e = cc
+frame_same (Err m) (Err n) x e = ap Err (number_one m n cc)
 
-pub frame_line_one : (out : List ℕ) (place key : ℕ) (a b : FrameLine) (x y : List ℕ)
+pub frame_line_one : (out : List ℕ) (place key : ℕ) (a b : Result ℕ Refusal) (x y : List ℕ)
     → (frame_line_says a x ≡ puts_frame out place key) × (x ≡ frame_holds (puts_frame out place key) out)
     → (frame_line_says b y ≡ puts_frame out place key) × (y ≡ frame_holds (puts_frame out place key) out) → (a ≡ b) × (x ≡ y)
 frame_line_one out place key a b x y p q =

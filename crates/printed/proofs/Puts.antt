@@ -8,12 +8,12 @@ use native.Mathlib.Nat.{zero-add, add-suc, suc-add}
 use native.Mathlib.Numerals.{sub-one}
 use native.Mathlib.Omega.{arith}
 use lib.Dec.{ltb}
-use lib.ListN.{length, set, length-append}
+use lib.ListN.{length, set, length-append, length-set}
 use lib.Seq.{sets, set_comm}
 use borrow.Author.Tests.{lt-ltb, le-ltb}
 use Rattle.layout.specs.Filling.{Put}
 use Rattle.layout.proofs.FillLaws.{sets_append, put_then}
-use Rattle.moment.specs.Said.{gives}
+use Rattle.refusal.specs.Said.{gives}
 use Rattle.moment.specs.Key.{fields_of, legal_of}
 use Rattle.moment.specs.declared.Fields.{Fields}
 use Rattle.exif.specs.Forms.{digit, blank}
@@ -121,3 +121,8 @@ frame_put place key f is legal p q r s t =
     let line = put_then (put_then (put_then (put_then p q) r) s) t in
     let n = line.next ∙ zero-add _ in
     (simp (legal, ← is, n, line.holds), simp (legal, ← is, line.holds))
+
+-- what the two loops over digits need
+pub ruleset puts_digits = (digits_none, digits_one, digits_few)
+
+pub ruleset puts_hex = (hex_back, length-set)

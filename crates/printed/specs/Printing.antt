@@ -1,12 +1,11 @@
 -- The lines that the sorting program prints, as lists of bytes. A blank is byte 32, LF 10; the words are spelt in ASCII.
 -- Assumes nothing.
-use Rattle.std.specs.Prelude.{cond, List, [], ◌∷◌, ◌++◌, ℕ, zero, suc, ◌+◌, ◌/◌, ◌%◌, ltb, length}
+use Rattle.std.specs.Prelude.{Result, Ok, Err, cond, List, [], ◌∷◌, ◌++◌, ℕ, zero, suc, ◌+◌, ◌/◌, ◌%◌, ltb, length}
 use Rattle.std.proofs.lemmas.List.Edits.{sets}
-use Rattle.moment.specs.Said.{Said, gives, refuses}
+use Rattle.refusal.specs.Said.{Said, gives, refuses, number}
 use Rattle.moment.specs.Key.{moment_of, fields_of, legal_of}
 use Rattle.exif.specs.Forms.{digit, two, text, blank}
-use Rattle.printed.specs.declared.FrameLine.{FrameLine}
-use Rattle.printed.specs.declared.FrameLine.TheVariants.{Bytes, Refused}
+use Rattle.refusal.specs.declared.Refusal.{Refusal}
 
 -- a number in decimal without padding, of at most so many digits; twenty do for 64 bits
 unfoldable pub digits_of : ℕ → ℕ → List ℕ
@@ -55,9 +54,9 @@ unfoldable pub already_line : ℕ → List ℕ
 already_line n = word_line ++ decimal n ++ (word_already ++ line_end)
 
 -- what the answer for a frame's line says, with the buffer after the call: the line at its front, or 3 for a key that is not legal
-abbrev pub frame_line_says : FrameLine → List ℕ → Said (ℕ × List ℕ)
-frame_line_says (Bytes n) after = gives (n, after)
-frame_line_says (Refused n) after = refuses n
+abbrev pub frame_line_says : Result ℕ Refusal → List ℕ → Said (ℕ × List ℕ)
+frame_line_says (Ok n) after = gives (n, after)
+frame_line_says (Err e) after = refuses (number e)
 
 unfoldable pub puts_frame : List ℕ → ℕ → ℕ → Said (ℕ × List ℕ)
 puts_frame out place key = cond (legal_of key) (gives (length (frame_line place key), sets out 0 (frame_line place key))) (refuses 3)

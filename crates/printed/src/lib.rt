@@ -8,14 +8,10 @@ ghost use Rattle.moment.specs.Key.{legal_of};
 ghost use Rattle.exif.specs.Forms.{blank};
 ghost use Rattle.printed.specs.Printing.{digits_of, decimal, hex_digit, hex_of, text_of, word_line, refused_line, already_line, frame_line_says, puts_frame, frame_holds};
 
-// What `frame_line` answers: how many bytes the line has, or a refusal with its number.
-#[derive(Clone, Copy)]
-pub enum FrameLine {
-    Bytes(usize),
-    Refused(u64),
-}
+use refusal::Refusal;
 
 // Puts a number in decimal, of at most so many digits: those before the last one, then the last. Returns the next place.
+#[tactic(auto, using(crate::proofs::Puts::puts_digits))]
 fn put_digits(out: &mut [u8], at: usize, most: u64, n: u64) -> usize
     requires { at + most ≤ length out.old }
     ensures { Put out.old at (digits_of most n) result out.new }
@@ -33,6 +29,7 @@ fn put_digits(out: &mut [u8], at: usize, most: u64, n: u64) -> usize
 }
 
 // Puts a number in decimal and the byte that follows it.
+#[tactic(auto, using(crate::proofs::Puts::digits_few))]
 fn put_number(out: &mut [u8], at: usize, n: u64, after: u8) -> usize
     requires { at + 21 ≤ length out.old }
     ensures { Put out.old at (decimal n ++ after ∷ []) result out.new }
@@ -42,27 +39,24 @@ fn put_number(out: &mut [u8], at: usize, n: u64, after: u8) -> usize
     end + 1
 }
 
+#[tactic(auto, unfolding(crate::specs::Printing::hex_digit))]
 fn hex_digit(n: u64) -> u8
     ensures { result ≡ hex_digit n }
 {
     let d = (n % 16) as u8;
-    if d < 10 {
-        return b'0' + d;
-    }
-    55 + d
+    if d < 10 { b'0' + d } else { b'A' - 10 + d }
 }
 
 // Puts a key and a blank, from the last digit on: so no digit waits for the one before it.
+#[tactic(auto, using(crate::proofs::Puts::puts_hex))]
 fn put_key(out: &mut [u8], at: usize, key: u64) -> usize
     requires { at + 17 ≤ length out.old }
     ensures { Put out.old at (hex_of 16 key ++ blank) result out.new }
 {
     out[at + 16] = b' ';
     let mut rest = key;
-    let mut many = 16;
-    while 0 < many {
-        many -= 1;
-        out[at + many] = hex_digit(rest);
+    for i in (0..16).rev() {
+        out[at + i] = hex_digit(rest);
         rest /= 16;
     }
     at + 17
@@ -73,7 +67,7 @@ fn put_text(out: &mut [u8], at: usize, key: u64) -> usize
     requires { (at + 20 ≤ length out.old) × (legal_of key ≡ true) }
     ensures { Put out.old at (text_of key ++ blank) result out.new }
 {
-    exif::write_text(out, at, key);
+    let _ = exif::write_text(out, at, key);
     out[at + 19] = b' ';
     at + 20
 }
@@ -88,11 +82,12 @@ fn put_word(out: &mut [u8], at: usize, word: &[u8]) -> usize
 }
 
 // A frame's line; or 3 for a key that is not legal, and the array stays.
-pub fn frame_line(out: &mut [u8; 128], place: u64, key: u64) -> FrameLine
+#[tactic(auto, using(crate::proofs::Puts::number_few, crate::proofs::Puts::key_length, crate::proofs::Texts::text_blank), unfolding(crate::specs::Printing::puts_frame))]
+pub fn frame_line(out: &mut [u8; 128], place: u64, key: u64) -> Result<usize, Refusal>
     ensures { (frame_line_says result out.new ≡ puts_frame out.old place key) × (out.new ≡ frame_holds (puts_frame out.old place key) out.old) }
 {
     if !moment::legal(key) {
-        return FrameLine::Refused(3);
+        return Err(Refusal::Range);
     }
     let f = moment::unpack(key);
     let a = put_number(out, 0, place, b' ');
@@ -100,7 +95,7 @@ pub fn frame_line(out: &mut [u8; 128], place: u64, key: u64) -> FrameLine
     let c = put_text(out, b, key);
     let d = put_number(out, c, f.camera, b' ');
     let e = put_number(out, d, f.number, b'\n');
-    FrameLine::Bytes(e)
+    Ok(e)
 }
 
 // Puts `line N`.
@@ -113,6 +108,7 @@ fn put_line(out: &mut [u8], n: u64) -> usize
 }
 
 // `line N refused R`
+#[tactic(auto, using(crate::proofs::Puts::line_few))]
 pub fn refused_line(out: &mut [u8; 128], n: u64, r: u64) -> usize
     ensures { Put out.old 0 (refused_line n r) result out.new }
 {
@@ -122,6 +118,7 @@ pub fn refused_line(out: &mut [u8; 128], n: u64, r: u64) -> usize
 }
 
 // `line N already`
+#[tactic(auto, using(crate::proofs::Puts::line_few))]
 pub fn already_line(out: &mut [u8; 128], n: u64) -> usize
     ensures { Put out.old 0 (already_line n) result out.new }
 {

@@ -4,17 +4,17 @@ use mathlib.Core.Path.{◌≡◌, refl, sym, ap, ◌∙◌}
 use mathlib.Core.Bool.{Bool, true, false, false≢true}
 use mathlib.Core.List.{List}
 use Prim.Native.Nat.{ℕ}
-use Rattle.moment.specs.Said.{Said, gives, refuses}
-use Rattle.table.specs.Rules.{reply_says}
-use Rattle.table.specs.declared.Reply.{Reply}
-use Rattle.table.specs.declared.Reply.TheVariants.{Done, Refusal}
-use Rattle.protocol.specs.Says.{Verdict, going, yes, no, full, answer_says}
+use Rattle.refusal.specs.Said.{Said, gives, refuses, said}
+use Rattle.std.specs.Prelude.{Result, Ok, Err}
+use Rattle.refusal.specs.declared.Refusal.{Refusal}
+use Rattle.refusal.proofs.SaidLaws.{why_of, why_of-number, said_one}
+use Rattle.protocol.specs.Says.{Verdict, going, yes, no, full, verdict_of, answer_says}
 use Rattle.protocol.specs.Step.{step_of}
 use Rattle.protocol.specs.Calls.{start_of, withdraw_of}
 use Rattle.protocol.specs.declared.Kind.{Kind}
 use Rattle.protocol.specs.declared.Worker.{Worker}
 use Rattle.protocol.specs.declared.Answer.{Answer}
-use Rattle.protocol.specs.declared.Answer.TheVariants.{Going, Yes, No, Full, Refused}
+use Rattle.protocol.specs.declared.Answer.TheVariants.{Going, Yes, No, Full}
 use Rattle.protocol.specs.declared.Stepped.{Stepped}
 use Rattle.protocol.specs.declared.Replied.{Replied}
 
@@ -36,33 +36,28 @@ given_or d (gives a) = a
 given_or d (refuses n) = d
 
 -- the answer that says it
-abbrev pub answer_of : Said Verdict → Answer
-answer_of (gives going) = Going
-answer_of (gives yes) = Yes
-answer_of (gives no) = No
-answer_of (gives full) = Full
-answer_of (refuses n) = Refused n
+abbrev pub one_of : Verdict → Answer
+one_of going = Going
+one_of yes = Yes
+one_of no = No
+one_of full = Full
 
-pub answer_of_lem : (a : Answer) → answer_of (answer_says a) ≡ a
-answer_of_lem Going = refl
-answer_of_lem Yes = refl
-answer_of_lem No = refl
-answer_of_lem Full = refl
-answer_of_lem (Refused n) = refl
+pub one_of-verdict_of : (a : Answer) → one_of (verdict_of a) ≡ a
+one_of-verdict_of Going = refl
+one_of-verdict_of Yes = refl
+one_of-verdict_of No = refl
+one_of-verdict_of Full = refl
 
-pub answer_one : (a b : Answer) → answer_says a ≡ answer_says b → a ≡ b
+abbrev pub answer_of : Said Verdict → Result Answer Refusal
+answer_of (gives v) = Ok (one_of v)
+answer_of (refuses n) = Err (why_of n)
+
+pub answer_of_lem : (a : Result Answer Refusal) → answer_of (answer_says a) ≡ a
+answer_of_lem (Ok a) = ap Ok (one_of-verdict_of a)
+answer_of_lem (Err e) = ap Err (why_of-number e)
+
+pub answer_one : (a b : Result Answer Refusal) → answer_says a ≡ answer_says b → a ≡ b
 answer_one a b e = sym (answer_of_lem a) ∙ ap answer_of e ∙ answer_of_lem b
-
-abbrev pub reply_of : Said (Unit {0}) → Reply
-reply_of (gives u) = Done
-reply_of (refuses n) = Refusal n
-
-pub reply_of_lem : (a : Reply) → reply_of (reply_says a) ≡ a
-reply_of_lem Done = refl
-reply_of_lem (Refusal n) = refl
-
-pub reply_one : (a b : Reply) → reply_says a ≡ reply_says b → a ≡ b
-reply_one a b e = sym (reply_of_lem a) ∙ ap reply_of e ∙ reply_of_lem b
 
 -- what a call promises of its result and of the words after it
 abbrev pub Steps : List ℕ → Worker → Stepped → List ℕ → Type 0
@@ -70,11 +65,11 @@ Steps ws w r vs = (answer_says r.answer ≡ (step_of ws w).says) × (r.worker �
 
 abbrev pub Starts : List ℕ → Worker → Kind → ℕ → Replied → List ℕ → Type 0
 Starts ws w kind key r vs =
-    (reply_says r.reply ≡ (start_of ws w kind key).says) × (r.worker ≡ (start_of ws w kind key).worker) × (vs ≡ (start_of ws w kind key).words)
+    (said r.reply ≡ (start_of ws w kind key).says) × (r.worker ≡ (start_of ws w kind key).worker) × (vs ≡ (start_of ws w kind key).words)
 
 abbrev pub Withdraws : List ℕ → Worker → Replied → List ℕ → Type 0
 Withdraws ws w r vs =
-    (reply_says r.reply ≡ (withdraw_of ws w).says) × (r.worker ≡ (withdraw_of ws w).worker) × (vs ≡ (withdraw_of ws w).words)
+    (said r.reply ≡ (withdraw_of ws w).says) × (r.worker ≡ (withdraw_of ws w).worker) × (vs ≡ (withdraw_of ws w).words)
 
 -- any two outcomes that it allows are equal
 pub step_one : (ws : List ℕ) (w : Worker) (r r' : Stepped) (vs vs' : List ℕ) → Steps ws w r vs → Steps ws w r' vs'
@@ -85,9 +80,9 @@ step_one ws w r r' vs vs' a b =
 pub start_one : (ws : List ℕ) (w : Worker) (kind : Kind) (key : ℕ) (r r' : Replied) (vs vs' : List ℕ)
     → Starts ws w kind key r vs → Starts ws w kind key r' vs' → (r.reply ≡ r'.reply) × (r.worker ≡ r'.worker) × (vs ≡ vs')
 start_one ws w kind key r r' vs vs' a b =
-    (reply_one r.reply r'.reply (a.0 ∙ sym b.0), a.1 ∙ sym b.1, a.2 ∙ sym b.2)
+    (said_one r.reply r'.reply (a.0 ∙ sym b.0), a.1 ∙ sym b.1, a.2 ∙ sym b.2)
 
 pub withdraw_one : (ws : List ℕ) (w : Worker) (r r' : Replied) (vs vs' : List ℕ) → Withdraws ws w r vs → Withdraws ws w r' vs'
     → (r.reply ≡ r'.reply) × (r.worker ≡ r'.worker) × (vs ≡ vs')
 withdraw_one ws w r r' vs vs' a b =
-    (reply_one r.reply r'.reply (a.0 ∙ sym b.0), a.1 ∙ sym b.1, a.2 ∙ sym b.2)
+    (said_one r.reply r'.reply (a.0 ∙ sym b.0), a.1 ∙ sym b.1, a.2 ∙ sym b.2)

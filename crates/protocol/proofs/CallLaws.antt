@@ -6,7 +6,7 @@ use mathlib.Core.List.{List}
 use Prim.Native.Nat.{ℕ, ◌≤◌, ◌<◌}
 use lib.Dec.{leb, eqb}
 use borrow.Author.Tests.{leb-true, leb-false}
-use Rattle.moment.specs.Said.{Said, gives, refuses}
+use Rattle.refusal.specs.Said.{Said, gives, refuses}
 use Rattle.moment.specs.Key.{legal_of}
 use Rattle.moment.proofs.Tests.{by_cases}
 use Rattle.table.specs.Pair.{busy_of}

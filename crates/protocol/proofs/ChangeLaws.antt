@@ -26,7 +26,9 @@ use Rattle.protocol.specs.declared.Action.{Action}
 use Rattle.protocol.specs.declared.Action.TheVariants.{Visit, Look, Lock, Mark, Link, Take, End, Beyond}
 use Rattle.protocol.specs.declared.Answer.TheVariants.{Yes}
 use Rattle.protocol.specs.declared.Outcome.{Outcome}
-use Rattle.protocol.specs.declared.Outcome.TheVariants.{Goes, Ends, Refuses}
+use Rattle.protocol.specs.declared.Outcome.TheVariants.{Goes, Ends}
+use Rattle.std.specs.Prelude.{Result, Ok, Err}
+use Rattle.refusal.specs.declared.Refusal.{Refusal}
 use Rattle.protocol.proofs.PlanLaws.{record_roles}
 use Rattle.protocol.proofs.Ends.{give_up_ends, lock_ends, take_ends}
 use Rattle.protocol.proofs.HeldLaws.{held, LocksOnly, given_up_locks, given_up_only, given_only}
@@ -109,12 +111,12 @@ pub data Stepping (ws : List ℕ) (p : Phase) (n : ℕ) (us : List ℕ) : Type 0
   seat_kept : Change ws p n us → Stepping ws p n us
   seat_left : (vs : List ℕ) → Change ws p n vs → us ≡ leave vs → Stepping ws p n us
 
-pub settled_changes : (w : Worker) (ws : List ℕ) (p : Phase) (n : ℕ) (o : Outcome) (vs : List ℕ) → Change ws p n vs
+pub settled_changes : (w : Worker) (ws : List ℕ) (p : Phase) (n : ℕ) (o : Result Outcome Refusal) (vs : List ℕ) → Change ws p n vs
     → Stepping ws p n (settled w o vs).words
 unfolding settled
-settled_changes w ws p n (Goes q) vs c = seat_kept c
-settled_changes w ws p n (Ends a) vs c = seat_left vs c refl
-settled_changes w ws p n (Refuses k) vs c = seat_kept c
+settled_changes w ws p n (Ok (Goes q)) vs c = seat_kept c
+settled_changes w ws p n (Ok (Ends a)) vs c = seat_left vs c refl
+settled_changes w ws p n (Err e) vs c = seat_kept c
 
 pub step_changes : (ws : List ℕ) (w : Worker) → Stepping ws w.phase (done_of w.phase) (step_of ws w).words
 step_changes ws w =

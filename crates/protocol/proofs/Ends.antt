@@ -12,7 +12,7 @@ use Rattle.moment.proofs.Tests.{by_cases}
 use Rattle.table.specs.Pair.{as_data, deleted, key_of, state_of, link_of, lock_of, set_lock, set_link, zero_pair}
 use Rattle.table.specs.declared.Which.{Which}
 use Rattle.protocol.specs.Plan.{at_root}
-use Rattle.protocol.specs.Locks.{Did, did, weight, crowded, granted, all_held, released, give_up, lock_step}
+use Rattle.protocol.specs.Locks.{Did, did, stopped, weight, crowded, granted, all_held, released, give_up, lock_step}
 use Rattle.protocol.specs.Stores.{lowest_fit, taken, take_step}
 use Rattle.protocol.specs.Walk.{removing, found, nothing, onward, visit, under, look}
 use Rattle.protocol.specs.declared.Kind.TheVariants.{Lookup, Insert, Remove}
@@ -21,7 +21,8 @@ use Rattle.protocol.specs.declared.Phase.TheVariants.{Walk, OnRouting, New, Two,
 use Rattle.protocol.specs.declared.Links.{Links}
 use Rattle.protocol.specs.declared.Answer.TheVariants.{Yes, No, Full}
 use Rattle.protocol.specs.declared.Outcome.{Outcome}
-use Rattle.protocol.specs.declared.Outcome.TheVariants.{Goes, Ends, Refuses}
+use Rattle.protocol.specs.declared.Outcome.TheVariants.{Goes, Ends}
+use Rattle.refusal.specs.declared.Refusal.TheVariants.{Damaged, Readers}
 
 -- a test of equality: true or not, as a fact
 pub by_eqb : (P : Outcome → Type 0) (a b : ℕ) {x y : Outcome} → (a ≡ b → P x) → (a ≢ b → P y) → P (cond (eqb a b) x y)
@@ -30,7 +31,7 @@ by_eqb P a b f g = by_cases P (eqb a b) (λ e. f (eqb-true a b e)) (λ e. g (eqb
 -- giving up
 pub give_up_ends : (P : Did → Type 0) (ws : List ℕ) (p : Phase) (n : ℕ) (then : Outcome)
     → (all_held ws p n ≡ true → P (did then (released ws p n)))
-    → (all_held ws p n ≡ false → P (did (Refuses 6) ws))
+    → (all_held ws p n ≡ false → P (stopped Damaged ws))
     → P (give_up ws p n then)
 unfolding give_up
 give_up_ends P ws p n then up bad = by_cases P (all_held ws p n) up bad
@@ -39,9 +40,9 @@ give_up_ends P ws p n then up bad = by_cases P (all_held ws p n) up bad
 pub lock_ends : (P : Did → Type 0) (ws : List ℕ) (p : Phase) (n : ℕ) (next : Phase) (slot : ℕ) (which : Which) (write : Bool) (state : ℕ) (links : Links)
     → (granted ws slot which write state links ≡ true → crowded write (lock_of ws slot which) ≡ false
     → P (did (Goes next) (set_lock ws slot which (lock_of ws slot which + weight write))))
-    → (granted ws slot which write state links ≡ true → crowded write (lock_of ws slot which) ≡ true → P (did (Refuses 9) ws))
+    → (granted ws slot which write state links ≡ true → crowded write (lock_of ws slot which) ≡ true → P (stopped Readers ws))
     → (granted ws slot which write state links ≡ false → all_held ws p n ≡ true → P (did (Goes at_root) (released ws p n)))
-    → (granted ws slot which write state links ≡ false → all_held ws p n ≡ false → P (did (Refuses 6) ws))
+    → (granted ws slot which write state links ≡ false → all_held ws p n ≡ false → P (stopped Damaged ws))
     → P (lock_step ws p n next slot which write state links)
 unfolding lock_step
 lock_ends P ws p n next slot which write state links given nine restarts six =
@@ -54,8 +55,8 @@ pub take_ends : (P : Did → Type 0) (ws : List ℕ) (key : ℕ) (p : Phase) (n 
     → (lowest_fit ws ≢ 0 → zero_pair ws (lowest_fit ws) ≡ true
     → P (did (Goes next) (set_link (taken ws (lowest_fit ws) key) prev side (lowest_fit ws))))
     → (lowest_fit ws ≡ 0 → all_held ws p n ≡ true → P (did (Ends Full) (released ws p n)))
-    → (lowest_fit ws ≡ 0 → all_held ws p n ≡ false → P (did (Refuses 6) ws))
-    → (lowest_fit ws ≢ 0 → zero_pair ws (lowest_fit ws) ≡ false → P (did (Refuses 6) ws))
+    → (lowest_fit ws ≡ 0 → all_held ws p n ≡ false → P (stopped Damaged ws))
+    → (lowest_fit ws ≢ 0 → zero_pair ws (lowest_fit ws) ≡ false → P (stopped Damaged ws))
     → P (take_step ws key p n next prev side)
 unfolding take_step
 take_ends P ws key p n next prev side took none bad dirty =

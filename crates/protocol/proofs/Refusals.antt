@@ -6,7 +6,7 @@ use mathlib.Core.Bool.{Bool, true, false, ◌&&◌, false≢true}
 use mathlib.Core.List.{List}
 use mathlib.Core.Logic.{◌⊎◌, inl, inr, ◌≢◌}
 use Prim.Native.Nat.{ℕ, ◌≤◌}
-use Rattle.moment.specs.Said.{Said, refuses}
+use Rattle.refusal.specs.Said.{Said, refuses}
 use Rattle.moment.specs.Key.{legal_of}
 use Rattle.table.specs.Pair.{busy_of, zero_pair}
 use Rattle.table.specs.Rules.{table_fine}

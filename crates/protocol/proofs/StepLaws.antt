@@ -5,7 +5,7 @@ use mathlib.Core.Bool.{Bool, true, false, ◌&&◌, false≢true}
 use mathlib.Core.List.{List}
 use mathlib.Core.Logic.{◌⊎◌, inl, inr, ◌≢◌}
 use Prim.Native.Nat.{ℕ}
-use Rattle.moment.specs.Said.{Said, gives, refuses}
+use Rattle.refusal.specs.Said.{Said, gives, refuses}
 use Rattle.moment.proofs.Tests.{tests, by_cases}
 use Rattle.table.specs.Rules.{table_fine}
 use Rattle.protocol.specs.Says.{Verdict, going, yes, no, full}
@@ -23,7 +23,11 @@ use Rattle.protocol.specs.declared.Worker.{Worker}
 use Rattle.protocol.specs.declared.Action.{Action}
 use Rattle.protocol.specs.declared.Action.TheVariants.{Visit, Look, Lock, Mark, Link, Take, End, Beyond}
 use Rattle.protocol.specs.declared.Answer.TheVariants.{Yes, No, Full}
-use Rattle.protocol.specs.declared.Outcome.TheVariants.{Goes, Ends, Refuses}
+use Rattle.protocol.specs.declared.Outcome.TheVariants.{Goes, Ends}
+use Rattle.std.specs.Prelude.{Ok, Err}
+use Rattle.refusal.specs.declared.Refusal.{Refusal}
+use Rattle.refusal.specs.declared.Refusal.TheVariants.{Damaged, Readers}
+use Rattle.refusal.specs.Said.{number}
 use Rattle.protocol.proofs.AnswerLaws.{gave, refusal_of, given_or}
 use Rattle.protocol.proofs.Ends.{give_up_ends, lock_ends, take_ends, removing_ends, lookup_ends, insert_ends, remove_ends, look_ends}
 
@@ -64,38 +68,38 @@ is_going yes = false
 is_going no = false
 is_going full = false
 
-pub fair_goes : (w : Worker) (ws vs : List ℕ) (p : Phase) → Fair w ws (settled w (Goes p) vs)
+pub fair_goes : (w : Worker) (ws vs : List ℕ) (p : Phase) → Fair w ws (settled w (Ok (Goes p)) vs)
 unfolding settled
 fair_goes w ws vs p = going_on p vs refl
 
-pub fair_refuses : (w : Worker) (ws : List ℕ) (n : ℕ) → Fair w ws (settled w (Refuses n) ws)
+pub fair_refuses : (w : Worker) (ws : List ℕ) (e : Refusal) → Fair w ws (settled w (Err e) ws)
 unfolding settled
-fair_refuses w ws n = refusing n refl
+fair_refuses w ws e = refusing (number e) refl
 
-pub fair_yes : (w : Worker) (ws vs : List ℕ) → Fair w ws (settled w (Ends Yes) vs)
+pub fair_yes : (w : Worker) (ws vs : List ℕ) → Fair w ws (settled w (Ok (Ends Yes)) vs)
 unfolding settled
 fair_yes w ws vs = ending yes vs (λ e. false≢true (ap is_going e)) refl
 
-pub fair_no : (w : Worker) (ws vs : List ℕ) → Fair w ws (settled w (Ends No) vs)
+pub fair_no : (w : Worker) (ws vs : List ℕ) → Fair w ws (settled w (Ok (Ends No)) vs)
 unfolding settled
 fair_no w ws vs = ending no vs (λ e. false≢true (ap is_going e)) refl
 
-pub fair_full : (w : Worker) (ws vs : List ℕ) → Fair w ws (settled w (Ends Full) vs)
+pub fair_full : (w : Worker) (ws vs : List ℕ) → Fair w ws (settled w (Ok (Ends Full)) vs)
 unfolding settled
 fair_full w ws vs = ending full vs (λ e. false≢true (ap is_going e)) refl
 
 pub fair_visit : (w : Worker) (ws : List ℕ) (kind : Kind) (key at prev before : ℕ) (side up : Bool)
-    → Fair w ws (settled w (visit ws kind key at prev before side up) ws)
+    → Fair w ws (settled w (Ok (visit ws kind key at prev before side up)) ws)
 fair_visit w ws Lookup key at prev before side up =
-    lookup_ends (λ o. Fair w ws (settled w o ws)) ws key at prev before side up
+    lookup_ends (λ o. Fair w ws (settled w (Ok o) ws)) ws key at prev before side up
     (λ k s. fair_yes w ws ws) (λ k s. fair_no w ws ws) (λ k c. fair_no w ws ws) (λ k c. fair_goes w ws ws _)
 fair_visit w ws Insert key at prev before side up =
-    insert_ends (λ o. Fair w ws (settled w o ws)) ws key at prev before side up
+    insert_ends (λ o. Fair w ws (settled w (Ok o) ws)) ws key at prev before side up
     (λ k s. fair_no w ws ws) (λ k s. fair_goes w ws ws _) (λ k s d. fair_goes w ws ws _) (λ k c. fair_goes w ws ws _) (λ k c. fair_goes w ws ws _)
 fair_visit w ws Remove key at prev before side up =
-    remove_ends (λ o. Fair w ws (settled w o ws)) ws key at prev before side up
+    remove_ends (λ o. Fair w ws (settled w (Ok o) ws)) ws key at prev before side up
     (λ k s. fair_no w ws ws)
-    (λ k s. removing_ends (λ o. Fair w ws (settled w o ws)) _ _ at prev before side up
+    (λ k s. removing_ends (λ o. Fair w ws (settled w (Ok o) ws)) _ _ at prev before side up
     (λ l r. fair_goes w ws ws _) (λ l r. fair_goes w ws ws _) (λ l r. fair_goes w ws ws _) (λ l r. fair_goes w ws ws _))
     (λ k c. fair_no w ws ws) (λ k c. fair_goes w ws ws _)
 
@@ -105,19 +109,19 @@ pub fair_act : (w : Worker) (ws : List ℕ) (kind : Kind) (key : ℕ) (p : Phase
 unfolding act_step
 fair_act w ws kind key p n next (Visit at prev before side up) = fair_visit w ws kind key at prev before side up
 fair_act w ws kind key p n next (Look this prev side before up) =
-    look_ends (λ o. Fair w ws (settled w o ws)) ws this prev side before up
+    look_ends (λ o. Fair w ws (settled w (Ok o) ws)) ws this prev side before up
     (λ d. fair_goes w ws ws _) (λ s. fair_goes w ws ws _) (λ d s c. fair_goes w ws ws _) (λ d s c. fair_goes w ws ws _)
 fair_act w ws kind key p n next (Lock slot which write state links) =
     lock_ends (λ d. Fair w ws (settle w d)) ws p n next slot which write state links
-    (λ g c. fair_goes w ws _ next) (λ g c. fair_refuses w ws 9) (λ g h. fair_goes w ws _ at_root) (λ g h. fair_refuses w ws 6)
+    (λ g c. fair_goes w ws _ next) (λ g c. fair_refuses w ws Readers) (λ g h. fair_goes w ws _ at_root) (λ g h. fair_refuses w ws Damaged)
 fair_act w ws kind key p n next (Mark slot to) = fair_goes w ws _ next
 fair_act w ws kind key p n next (Link slot side to) = fair_goes w ws _ next
 fair_act w ws kind key p n next (Take prev side) =
     take_ends (λ d. Fair w ws (settle w d)) ws key p n next prev side
-    (λ f z. fair_goes w ws _ next) (λ f h. fair_full w ws _) (λ f h. fair_refuses w ws 6) (λ f z. fair_refuses w ws 6)
+    (λ f z. fair_goes w ws _ next) (λ f h. fair_full w ws _) (λ f h. fair_refuses w ws Damaged) (λ f z. fair_refuses w ws Damaged)
 fair_act w ws kind key p n next End =
-    give_up_ends (λ d. Fair w ws (settle w d)) ws p n (Ends Yes) (λ h. fair_yes w ws _) (λ h. fair_refuses w ws 6)
-fair_act w ws kind key p n next Beyond = fair_refuses w ws 6
+    give_up_ends (λ d. Fair w ws (settle w d)) ws p n (Ends Yes) (λ h. fair_yes w ws _) (λ h. fair_refuses w ws Damaged)
+fair_act w ws kind key p n next Beyond = fair_refuses w ws Damaged
 
 -- and so does every step
 pub step_fair : (ws : List ℕ) (w : Worker) → Fair w ws (step_of ws w)
@@ -170,20 +174,20 @@ May End s = (s ≡ gives yes) ⊎ (s ≡ refuses 6)
 May Beyond s = s ≡ refuses 6
 
 pub visit_may : (w : Worker) (ws : List ℕ) (kind : Kind) (key at prev before : ℕ) (side up : Bool)
-    → ((settled w (visit ws kind key at prev before side up) ws).says ≡ gives going)
-    ⊎ (((settled w (visit ws kind key at prev before side up) ws).says ≡ gives yes)
-    ⊎ ((settled w (visit ws kind key at prev before side up) ws).says ≡ gives no))
+    → ((settled w (Ok (visit ws kind key at prev before side up)) ws).says ≡ gives going)
+    ⊎ (((settled w (Ok (visit ws kind key at prev before side up)) ws).says ≡ gives yes)
+    ⊎ ((settled w (Ok (visit ws kind key at prev before side up)) ws).says ≡ gives no))
 unfolding settled
 visit_may w ws Lookup key at prev before side up =
-    lookup_ends (λ o. May (Visit at prev before side up) (settled w o ws).says) ws key at prev before side up
+    lookup_ends (λ o. May (Visit at prev before side up) (settled w (Ok o) ws).says) ws key at prev before side up
     (λ k s. inr (inl refl)) (λ k s. inr (inr refl)) (λ k c. inr (inr refl)) (λ k c. inl refl)
 visit_may w ws Insert key at prev before side up =
-    insert_ends (λ o. May (Visit at prev before side up) (settled w o ws).says) ws key at prev before side up
+    insert_ends (λ o. May (Visit at prev before side up) (settled w (Ok o) ws).says) ws key at prev before side up
     (λ k s. inr (inr refl)) (λ k s. inl refl) (λ k s d. inl refl) (λ k c. inl refl) (λ k c. inl refl)
 visit_may w ws Remove key at prev before side up =
-    remove_ends (λ o. May (Visit at prev before side up) (settled w o ws).says) ws key at prev before side up
+    remove_ends (λ o. May (Visit at prev before side up) (settled w (Ok o) ws).says) ws key at prev before side up
     (λ k s. inr (inr refl))
-    (λ k s. removing_ends (λ o. May (Visit at prev before side up) (settled w o ws).says) _ _ at prev before side up
+    (λ k s. removing_ends (λ o. May (Visit at prev before side up) (settled w (Ok o) ws).says) _ _ at prev before side up
     (λ l r. inl refl) (λ l r. inl refl) (λ l r. inl refl) (λ l r. inl refl))
     (λ k c. inr (inr refl)) (λ k c. inl refl)
 
@@ -192,7 +196,7 @@ pub act_may : (w : Worker) (ws : List ℕ) (kind : Kind) (key : ℕ) (p : Phase)
 unfolding act_step settled
 act_may w ws kind key p n next (Visit at prev before side up) = visit_may w ws kind key at prev before side up
 act_may w ws kind key p n next (Look this prev side before up) =
-    look_ends (λ o. (settled w o ws).says ≡ gives going) ws this prev side before up
+    look_ends (λ o. (settled w (Ok o) ws).says ≡ gives going) ws this prev side before up
     (λ d. refl) (λ s. refl) (λ d s c. refl) (λ d s c. refl)
 act_may w ws kind key p n next (Lock slot which write state links) =
     lock_ends (λ d. May (Lock slot which write state links) (settle w d).says) ws p n next slot which write state links

@@ -10,7 +10,7 @@ use native.Mathlib.Omega.{arith}
 use native.Mathlib.Decide.{ℕ_discrete}
 use Rattle.table.specs.Pair.{as_data, state_f, link_f, lock_f, busy_f, field_of, lock_of}
 use Rattle.table.specs.declared.Which.{Which}
-use Rattle.table.proofs.ChangeLaws.{Only, side_apart, lock_apart}
+use Rattle.table.proofs.ChangeLaws.{Only, lock_apart}
 use Rattle.tree.specs.Reach.{Tab, tab_of}
 use Rattle.protocol.proofs.HeldLaws.{LocksOnly}
 use Rattle.protocol.proofs.StoreLaws.{Joins, state_link}

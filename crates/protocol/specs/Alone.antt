@@ -1,7 +1,7 @@
 -- A WORKER ALONE: a calm table, a run of steps counted in the calls themselves, and what each kind of work answers and leaves.
 -- Assumes nothing.
 use Rattle.std.specs.Prelude.{◌≡◌, true, List, ◌↔◌, ◌≢◌, ℕ, suc, ◌+◌, ◌≤◌, ◌<◌}
-use Rattle.moment.specs.Said.{gives}
+use Rattle.refusal.specs.Said.{gives}
 use Rattle.table.specs.Pair.{free, routing, deleted, slots_of, key_of, state_of, lock_of, busy_of}
 use Rattle.table.specs.Rules.{table_fine}
 use Rattle.table.specs.declared.Which.{Which}

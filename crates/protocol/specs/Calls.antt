@@ -1,7 +1,7 @@
 -- Start and withdraw. Their refusals are one number, judged in document 01's order; 0: none.
 -- Assumes nothing.
 use Rattle.std.specs.Prelude.{Bool, true, false, cond, ◌||◌, List, ℕ, zero, suc, ◌+◌, leb, eqb}
-use Rattle.moment.specs.Said.{gives}
+use Rattle.refusal.specs.Said.{gives}
 use Rattle.moment.specs.Key.{legal_of}
 use Rattle.table.specs.Pair.{busy_of, set_busy}
 use Rattle.table.specs.Rules.{table_fine}

@@ -4,7 +4,7 @@
 -- just the ones that changed the set, as if they had said yes; it has none twice; and it keeps the order of works that do not overlap.
 -- Assumes nothing.
 use Rattle.std.specs.Prelude.{◌≡◌, false, List, [], ◌∷◌, ◌⊎◌, ◌≢◌, ℕ, suc, ◌≤◌, ◌<◌}
-use Rattle.moment.specs.Said.{gives}
+use Rattle.refusal.specs.Said.{gives}
 use Rattle.protocol.specs.Says.{Verdict, going, yes, full}
 use Rattle.protocol.specs.Calls.{withdraw_of}
 use Rattle.protocol.specs.Alone.{NoneFree}

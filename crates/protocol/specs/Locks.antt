@@ -1,6 +1,8 @@
 -- Taking a lock, and giving up all locks held. The locks held are the lock actions of the plan that are done.
 -- Assumes nothing.
-use Rattle.std.specs.Prelude.{Bool, true, false, cond, not, ◌&&◌, List, ℕ, zero, suc, ◌+◌, ◌-◌, leb, eqb}
+use Rattle.std.specs.Prelude.{Bool, true, false, cond, not, ◌&&◌, List, ℕ, zero, suc, ◌+◌, ◌-◌, leb, eqb, Result, Ok, Err}
+use Rattle.refusal.specs.declared.Refusal.{Refusal}
+use Rattle.refusal.specs.declared.Refusal.TheVariants.{Damaged, Readers}
 use Rattle.table.specs.Pair.{deleted, state_of, link_of, lock_of, set_lock}
 use Rattle.table.specs.Rules.{pair_fine}
 use Rattle.table.specs.declared.Which.{Which}
@@ -11,15 +13,18 @@ use Rattle.protocol.specs.declared.Links.TheVariants.{Any, Is, Neither, Both}
 use Rattle.protocol.specs.declared.Action.{Action}
 use Rattle.protocol.specs.declared.Action.TheVariants.{Visit, Look, Lock, Mark, Link, Take, End, Beyond}
 use Rattle.protocol.specs.declared.Outcome.{Outcome}
-use Rattle.protocol.specs.declared.Outcome.TheVariants.{Goes, Refuses}
+use Rattle.protocol.specs.declared.Outcome.TheVariants.{Goes}
 
--- what an action comes to, and the words after it
+-- what an action comes to, and the words after it; one that is refused leaves them
 pub record Did : Type 0 where
-  pub said : Outcome
+  pub said : Result Outcome Refusal
   pub words : List ℕ
 
 abbrev pub did : Outcome → List ℕ → Did
-did o ws = record { said = o; words = ws }
+did o ws = record { said = Ok o; words = ws }
+
+abbrev pub stopped : Refusal → List ℕ → Did
+stopped e ws = record { said = Err e; words = ws }
 
 -- The expectation
 
@@ -88,13 +93,13 @@ released ws p zero = ws
 released ws p (suc n) = release_one (released ws p n) (action_at p n)
 
 unfoldable pub give_up : List ℕ → Phase → ℕ → Outcome → Did
-give_up ws p n then = cond (all_held ws p n) (did then (released ws p n)) (did (Refuses 6) ws)
+give_up ws p n then = cond (all_held ws p n) (did then (released ws p n)) (stopped Damaged ws)
 
 -- Taking: given, or all is given up and the work restarts; 9 where the word is crowded
 unfoldable pub lock_step : List ℕ → Phase → ℕ → Phase → ℕ → Which → Bool → ℕ → Links → Did
 lock_step ws p n next slot which write state links =
     cond (granted ws slot which write state links)
     (cond (crowded write (lock_of ws slot which))
-    (did (Refuses 9) ws)
+    (stopped Readers ws)
     (did (Goes next) (set_lock ws slot which (lock_of ws slot which + weight write))))
     (give_up ws p n (Goes at_root))

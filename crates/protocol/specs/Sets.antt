@@ -2,7 +2,7 @@
 -- values, initially empty". Full is the table's own answer: a set has no size, a table has.
 -- Assumes nothing.
 use Rattle.std.specs.Prelude.{◌≡◌, Bool, true, false, not, ◌&&◌, ◌||◌, List, [], ◌∷◌, ◌↔◌, ℕ, eqb}
-use Rattle.moment.specs.Said.{gives}
+use Rattle.refusal.specs.Said.{gives}
 use Rattle.moment.specs.Key.{legal_of}
 use Rattle.tree.specs.Reach.{InSet}
 use Rattle.tree.specs.Answers.{sweep_says, sweep_words}

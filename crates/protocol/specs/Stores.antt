@@ -3,10 +3,11 @@
 use Rattle.std.specs.Prelude.{Bool, cond, List, ℕ, eqb}
 use Rattle.table.specs.Free.{lowest_slot, is_free}
 use Rattle.table.specs.Pair.{as_data, set_key, set_state, set_link, zero_pair}
-use Rattle.protocol.specs.Locks.{Did, did, give_up}
+use Rattle.protocol.specs.Locks.{Did, did, stopped, give_up}
 use Rattle.protocol.specs.declared.Phase.{Phase}
 use Rattle.protocol.specs.declared.Answer.TheVariants.{Full}
-use Rattle.protocol.specs.declared.Outcome.TheVariants.{Goes, Ends, Refuses}
+use Rattle.protocol.specs.declared.Outcome.TheVariants.{Goes, Ends}
+use Rattle.refusal.specs.declared.Refusal.TheVariants.{Damaged}
 
 -- a slot is fit to be taken when it is free
 unfoldable pub fit : List ℕ → ℕ → Bool
@@ -27,4 +28,4 @@ take_step ws key p n next prev side =
     (give_up ws p n (Ends Full))
     (cond (zero_pair ws (lowest_fit ws))
     (did (Goes next) (set_link (taken ws (lowest_fit ws) key) prev side (lowest_fit ws)))
-    (did (Refuses 6) ws))
+    (stopped Damaged ws))

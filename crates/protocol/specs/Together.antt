@@ -2,7 +2,7 @@
 -- any arguments. What happens is what the definitions of the calls say, and nothing else is believed here.
 -- Assumes nothing.
 use Rattle.std.specs.Prelude.{Bool, false, cond, not, ◌&&◌, List, ℕ, zero, suc, ltb, eqb, length, get_or, set}
-use Rattle.moment.specs.Said.{Said}
+use Rattle.refusal.specs.Said.{Said}
 use Rattle.table.specs.Rules.{fresh_words}
 use Rattle.tree.specs.Answers.{sweep_words}
 use Rattle.protocol.specs.Says.{Verdict}

@@ -2,7 +2,7 @@
 -- field for each; the definitions it rests on are those of the calls (`Together`), of a sound table and of the set (tree).
 -- Assumes nothing.
 use Rattle.std.specs.Prelude.{◌≡◌, Bool, true, false, List, [], ◌∷◌, ◌↔◌, ◌⊎◌, ◌≢◌, ℕ, suc, ◌+◌, ◌≤◌, ◌<◌, length, get_or}
-use Rattle.moment.specs.Said.{gives, refuses}
+use Rattle.refusal.specs.Said.{gives, refuses}
 use Rattle.table.specs.Pair.{deleted, slots_of, state_of, lock_of, busy_of}
 use Rattle.table.specs.declared.Which.{Which}
 use Rattle.tree.specs.Reach.{tab_of, Reached, InSet}

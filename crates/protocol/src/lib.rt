@@ -2,17 +2,18 @@
 // and withdraw do stands in specs/ as definitions, and the laws of it in proofs/.
 #![tactic(auto)]
 
-use table::{Reply, Which};
+use refusal::Refusal;
+use table::Which;
 
 // What a worker may be busy with.
-#[derive(Clone, Copy)]
+#[derive(Clone, Copy, Debug, PartialEq, Eq, Hash)]
 pub enum Kind {
     Lookup,
     Insert,
     Remove,
 }
 
-#[derive(Clone, Copy)]
+#[derive(Clone, Copy, Debug, PartialEq, Eq, Hash)]
 pub enum Work {
     Idle,
     Busy(Kind),
@@ -21,7 +22,7 @@ pub enum Work {
 // The case that a work has come to, with the slots and sides it noted and how many of the case's actions are done: so
 // it carries the locks held. A slot is a plain number, 0 is the root, or none above it; a side is true for left.
 // `side` is that of the link from `prev` to the slot itself, `up` that from `before` to `prev`, `toward` that to `child`.
-#[derive(Clone, Copy)]
+#[derive(Clone, Copy, Debug, PartialEq, Eq, Hash)]
 pub enum Phase {
     Walk {
         at: u64,
@@ -76,7 +77,7 @@ pub enum Phase {
 }
 
 // The record that the caller keeps.
-#[derive(Clone, Copy)]
+#[derive(Clone, Copy, Debug, PartialEq, Eq, Hash)]
 pub struct Worker {
     pub work: Work,
     pub key: u64,
@@ -84,7 +85,7 @@ pub struct Worker {
 }
 
 // What a lock expects of its slot's links: nothing, this child on a side (0: none), no child, or two children.
-#[derive(Clone, Copy)]
+#[derive(Clone, Copy, Debug, PartialEq, Eq, Hash)]
 pub enum Links {
     Any,
     Is(bool, u64),
@@ -96,7 +97,7 @@ pub enum Links {
 // Visit: at, prev, before, side, up. Look: this, prev, side, before, up.
 // Lock: slot, which lock, written (or read), the state expected (0: not deleted), the links expected.
 // Mark: slot, the state stored. Link: slot, side, the child stored. Take: prev, side. Beyond: past a plan's end.
-#[derive(Clone, Copy)]
+#[derive(Clone, Copy, Debug, PartialEq, Eq, Hash)]
 pub enum Action {
     Visit(u64, u64, u64, bool, bool),
     Look(u64, u64, bool, u64, bool),
@@ -108,33 +109,32 @@ pub enum Action {
     Beyond,
 }
 
-// What an action comes to: the work goes on in a phase, ends with an answer, or the step is refused.
-#[derive(Clone, Copy)]
-pub enum Outcome {
-    Goes(Phase),
-    Ends(Answer),
-    Refuses(u64),
-}
-
-// What a step answers.
-#[derive(Clone, Copy)]
+// What a step answers that is not refused.
+#[derive(Clone, Copy, Debug, PartialEq, Eq, Hash)]
 pub enum Answer {
     Going,
     Yes,
     No,
     Full,
-    Refused(u64),
 }
 
-#[derive(Clone, Copy)]
+// What an action comes to that is not refused: the work goes on in a phase, or ends with an answer.
+#[derive(Clone, Copy, Debug, PartialEq, Eq, Hash)]
+pub enum Outcome {
+    Goes(Phase),
+    Ends(Answer),
+}
+
+// What a step gives back.
+#[derive(Clone, Copy, Debug, PartialEq, Eq, Hash)]
 pub struct Stepped {
-    pub answer: Answer,
+    pub answer: Result<Answer, Refusal>,
     pub worker: Worker,
 }
 
 // What start and withdraw give back.
-#[derive(Clone, Copy)]
+#[derive(Clone, Copy, Debug, PartialEq, Eq, Hash)]
 pub struct Replied {
-    pub reply: Reply,
+    pub reply: Result<(), Refusal>,
     pub worker: Worker,
 }

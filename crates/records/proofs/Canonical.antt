@@ -2,13 +2,14 @@
 -- words of the record that is read.
 -- Assumes nothing.
 use mathlib.Core.Path.{◌≡◌, refl, sym, ap, ◌∙◌}
-use mathlib.Core.Bool.{Bool, true, false, false≢true, cond}
+use mathlib.Core.Bool.{Bool, true, false, cond}
 use mathlib.Core.List.{List, [], ◌∷◌}
 use Prim.Native.Nat.{ℕ}
 use native.Mathlib.Omega.{arith}
+use Rattle.std.specs.Prelude.{Some, None}
 use lib.Dec.{eqb}
 use lib.ListN.{length}
-use borrow.Author.Tests.{eq-eqb, ne_eqb}
+use borrow.Author.Tests.{eq-eqb}
 use Rattle.moment.proofs.Tests.{tests}
 use Rattle.protocol.specs.declared.Kind.TheVariants.{Lookup, Insert, Remove}
 use Rattle.protocol.specs.declared.Work.{Work}
@@ -17,8 +18,6 @@ use Rattle.protocol.specs.declared.Phase.{Phase}
 use Rattle.protocol.specs.declared.Phase.TheVariants.{Walk, OnRouting, New, Two, One, Leaf, UnderData, UnderRouting}
 use Rattle.protocol.specs.declared.Worker.{Worker}
 use Rattle.records.specs.declared.Flat.{Flat}
-use Rattle.records.specs.declared.Lent.{Lent}
-use Rattle.records.specs.declared.Lent.TheVariants.{Record, Nothing}
 use Rattle.records.specs.Records.{side_number, work_number, phase_flat, flat_of, listed, words_of, flat_at, work_at, phase_at, worker_at, worker_of, same_flat, is_record, read_of, put_record}
 
 -- A record's words are read as it
@@ -128,40 +127,22 @@ words_record w = rw (listed_flat (flat_of w), flat_back w, same_self (flat_of w)
 pub one_record : (a b : Worker) → words_of a ≡ words_of b → a ≡ b
 one_record a b e = sym (words_read a) ∙ ap worker_of e ∙ words_read b
 
--- What is read: nothing exactly where the words are no record
+-- What a test keeps: nothing exactly where it fails
 
-read_by : (s : List ℕ) (b : Bool) → is_record s ≡ b → read_of s ≡ cond b (Record (worker_of s)) Nothing
+pub none_not : {A : Type 0} (b : Bool) (x : A) → cond b (Some x) None ≡ None → b ≡ false
+none_not true x e = cc
+none_not false x e = refl
+
+pub some_only : {A : Type 0} (b : Bool) (x y : A) → cond b (Some x) None ≡ Some y → (b ≡ true) × (y ≡ x)
+some_only true x y e = (refl, cc)
+some_only false x y e = absurd cc
+
+-- so nothing is read exactly where the words are no record
+
+pub read_nothing : (s : List ℕ) → read_of s ≡ None → is_record s ≡ false
 unfolding read_of
-read_by s b e = rw e
+read_nothing s e = none_not (is_record s) (worker_of s) e
 
-abbrev record_in : Worker → Lent → Worker
-record_in w (Record v) = v
-record_in w Nothing = w
-
-abbrev is_nothing : Lent → Bool
-is_nothing (Record v) = false
-is_nothing Nothing = true
-
-pub read_nothing : (s : List ℕ) → read_of s ≡ Nothing → is_record s ≡ false
-read_nothing s e = go (is_record s) refl
-  where
-    go : (b : Bool) → is_record s ≡ b → is_record s ≡ false
-    go true r = absurd (false≢true (ap is_nothing (sym (read_by s true r) ∙ e)))
-    go false r = r
-
-pub read_record : (s : List ℕ) (w : Worker) → read_of s ≡ Record w → (is_record s ≡ true) × (w ≡ worker_of s)
-read_record s w e = go (is_record s) refl
-  where
-    go : (b : Bool) → is_record s ≡ b → (is_record s ≡ true) × (w ≡ worker_of s)
-    go true r = (r, ap (record_in w) (sym e ∙ read_by s true r))
-    go false r = absurd (false≢true (ap is_nothing (sym e ∙ read_by s false r)))
-
--- what the function that reads has in hand
-pub judged : (s : List ℕ) (f : Flat) (b : Bool) → length s ≡ 11 → f ≡ flat_at s → b ≡ same_flat f (flat_of (worker_at f))
-    → (is_record s ≡ b) × (worker_at f ≡ worker_of s)
-unfolding is_record
-judged s f b n p e = (rw (eq-eqb (length s) 11 n) (cc (p, e)), cc p)
-
-pub too_few : (s : List ℕ) → (length s ≡ 11 → ⊥) → is_record s ≡ false
-unfolding is_record
-too_few s n = rw (ne_eqb (length s) 11 n)
+pub read_record : (s : List ℕ) (w : Worker) → read_of s ≡ Some w → (is_record s ≡ true) × (w ≡ worker_of s)
+unfolding read_of
+read_record s w e = some_only (is_record s) (worker_of s) w e

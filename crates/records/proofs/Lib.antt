@@ -1,9 +1,8 @@
 pub mod Canonical
 pub mod OwnWords
-pub mod Fills
 pub mod Walks
-pub mod Removers
 pub mod OneOutcome
 pub mod Counts
 pub mod TakenApart
 pub mod Idle
+pub mod Names

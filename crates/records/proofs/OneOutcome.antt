@@ -4,6 +4,7 @@ use mathlib.Core.Path.{◌≡◌, sym, ◌∙◌}
 use mathlib.Core.Bool.{Bool}
 use mathlib.Core.List.{List}
 use Prim.Native.Nat.{ℕ}
+use Rattle.std.specs.Prelude.{Option}
 use Rattle.protocol.specs.Plan.{at_root}
 use Rattle.protocol.specs.Step.{idle_worker}
 use Rattle.protocol.specs.declared.Kind.{Kind}
@@ -12,10 +13,8 @@ use Rattle.protocol.specs.declared.Phase.{Phase}
 use Rattle.protocol.specs.declared.Worker.{Worker}
 use Rattle.records.specs.Records.{parts_of, read_of, worker_at, put_record, is_idle, is_walk, walk_on, has_plan, count_on}
 use Rattle.records.specs.declared.Flat.{Flat}
-use Rattle.records.specs.declared.Parts.{Parts}
-use Rattle.records.specs.declared.Lent.{Lent}
 
-pub read_one : (s : List ℕ) (a b : Lent) → a ≡ read_of s → b ≡ read_of s → a ≡ b
+pub read_one : (s : List ℕ) (a b : Option Worker) → a ≡ read_of s → b ≡ read_of s → a ≡ b
 read_one s a b p q = p ∙ sym q
 
 pub put_one : (s : List ℕ) (w : Worker) (a b : List ℕ) → a ≡ put_record s w → b ≡ put_record s w → a ≡ b
@@ -30,7 +29,7 @@ walk_on_one s next left a b p q = p ∙ sym q
 pub count_on_one : (s : List ℕ) (a b : List ℕ) → a ≡ count_on s → b ≡ count_on s → a ≡ b
 count_on_one s a b p q = p ∙ sym q
 
-pub take_apart_one : (s : List ℕ) (a b : Parts) → a ≡ parts_of s → b ≡ parts_of s → a ≡ b
+pub take_apart_one : (s : List ℕ) (a b : Option Flat) → a ≡ parts_of s → b ≡ parts_of s → a ≡ b
 take_apart_one s a b p q = p ∙ sym q
 
 pub phase_of_one : (f : Flat) (a b : Phase) → a ≡ (worker_at f).phase → b ≡ (worker_at f).phase → a ≡ b

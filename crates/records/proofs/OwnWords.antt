@@ -65,10 +65,3 @@ pub own_same : (f : Flat)
     ≡ same_flat f (flat_of (worker_at f))
 own_same f =
     by_phase f.phase f.work f.key f.this f.prev f.side f.before f.up f.other f.toward f.done
-
--- a number that is no phase has no record
-pub no_phase : (n t p s b u o d e : ℕ) → (n ≡ 0 → ⊥) → (n ≡ 1 → ⊥) → (n ≡ 2 → ⊥) → (n ≡ 3 → ⊥) → (n ≡ 4 → ⊥) → (n ≡ 5 → ⊥)
-    → (n ≡ 6 → ⊥) → (n ≡ 7 → ⊥) → phase_own n t p s b u o d e ≡ false
-unfolding phase_own
-no_phase n t p s b u o d e n0 n1 n2 n3 n4 n5 n6 n7 =
-    rw (ne_eqb n 0 n0, ne_eqb n 1 n1, ne_eqb n 2 n2, ne_eqb n 3 n3, ne_eqb n 4 n4, ne_eqb n 5 n5, ne_eqb n 6 n6, ne_eqb n 7 n7)

@@ -2,7 +2,7 @@
 -- under previous, the one before, the side of previous under it, the child or other child, the child's side, and how many
 -- of the plan's actions are done. What a phase does not note is 0; a side is 0 for left and 1 for right.
 -- Assumes nothing.
-use Rattle.std.specs.Prelude.{Bool, true, false, cond, not, ◌&&◌, List, [], ◌∷◌, ℕ, ◌+◌, eqb, leb, ltb, length, get_or, set}
+use Rattle.std.specs.Prelude.{Bool, true, false, cond, not, ◌&&◌, List, [], ◌∷◌, ℕ, ◌+◌, eqb, leb, ltb, length, get_or, set, Option, Some, None}
 use Rattle.std.proofs.lemmas.List.Edits.{sets}
 use Rattle.protocol.specs.declared.Kind.{Kind}
 use Rattle.protocol.specs.declared.Kind.TheVariants.{Lookup, Insert, Remove}
@@ -12,10 +12,6 @@ use Rattle.protocol.specs.declared.Phase.{Phase}
 use Rattle.protocol.specs.declared.Phase.TheVariants.{Walk, OnRouting, New, Two, One, Leaf, UnderData, UnderRouting}
 use Rattle.protocol.specs.declared.Worker.{Worker}
 use Rattle.records.specs.declared.Flat.{Flat}
-use Rattle.records.specs.declared.Lent.{Lent}
-use Rattle.records.specs.declared.Lent.TheVariants.{Record, Nothing}
-use Rattle.records.specs.declared.Parts.{Parts}
-use Rattle.records.specs.declared.Parts.TheVariants as parts
 
 -- From a record to words
 
@@ -100,6 +96,10 @@ flat_at s =
       done = get_or s 10 0;
     }
 
+-- by name, where they are eleven
+unfoldable pub named_of : List ℕ → Option Flat
+named_of s = cond (eqb (length s) 11) (Some (flat_at s)) None
+
 unfoldable pub work_at : ℕ → Work
 work_at n = cond (eqb n 1) (Busy Lookup) (cond (eqb n 2) (Busy Insert) (cond (eqb n 3) (Busy Remove) Idle))
 
@@ -113,16 +113,11 @@ phase_at n this prev side before up other toward done =
     (cond (eqb n 6) (UnderData this prev side done)
     (cond (eqb n 7) (UnderRouting this prev side before up other done) (Walk this prev before side up)))))))
 
--- the end of it from 6 on, and from 4 on: the code reads these in functions of their own
+-- the end of it from 6 on: the code reads this in a function of its own
 abbrev pub under_at : ℕ → ℕ → ℕ → Bool → ℕ → Bool → ℕ → ℕ → Phase
 under_at n this prev side before up other done =
     cond (eqb n 6) (UnderData this prev side done)
     (cond (eqb n 7) (UnderRouting this prev side before up other done) (Walk this prev before side up))
-
-abbrev pub remover_at : ℕ → ℕ → ℕ → Bool → ℕ → Bool → ℕ → Bool → ℕ → Phase
-remover_at n this prev side before up other toward done =
-    cond (eqb n 4) (One this prev side other toward done)
-    (cond (eqb n 5) (Leaf this prev side before up) (under_at n this prev side before up other done))
 
 unfoldable pub worker_at : Flat → Worker
 worker_at f =
@@ -164,15 +159,18 @@ phase_own n this prev side before up other toward done =
     (cond (eqb n 7) (leb side 1 && leb up 1 && eqb toward 0) false)))))))
 
 -- what lent words are: by name, and as a record
-unfoldable pub parts_of : List ℕ → Parts
-parts_of s = cond (is_record s) (parts.Words (flat_at s)) parts.Nothing
+unfoldable pub parts_of : List ℕ → Option Flat
+parts_of s = cond (is_record s) (Some (flat_at s)) None
 
-unfoldable pub read_of : List ℕ → Lent
-read_of s = cond (is_record s) (Record (worker_of s)) Nothing
+unfoldable pub read_of : List ℕ → Option Worker
+read_of s = cond (is_record s) (Some (worker_of s)) None
 
--- a record put into lent words; nothing where they do not fit exactly
+-- a record put into lent words, or any words by name; nothing where they do not fit exactly
 unfoldable pub put_record : List ℕ → Worker → List ℕ
 put_record s w = cond (eqb (length s) 11) (words_of w) s
+
+abbrev pub put_words : List ℕ → Flat → List ℕ
+put_words s f = cond (eqb (length s) 11) (listed f) s
 
 -- Eleven zeros are an idle record: `proofs/Idle.antt`.
 unfoldable pub is_idle : List ℕ → Bool

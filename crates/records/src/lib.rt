@@ -1,27 +1,26 @@
 // A worker's record as eleven words, and back. Every record has its words, and no two records have the same.
 #![tactic(auto)]
 
-ghost use Rattle.std.specs.Prelude.{◌≡◌, true, length};
+ghost use Rattle.std.specs.Prelude.{◌≡◌, true};
 ghost use Rattle.protocol.specs.Plan.{at_root};
 ghost use Rattle.protocol.specs.Step.{idle_worker};
 ghost use Rattle.protocol.specs.declared.Work.TheVariants.{Busy};
-ghost use Rattle.records.specs.Records.{side_number, kind_number, work_number, flat_at, noted_of, is_remover, phase_flat, flat_of, parts_of, read_of, worker_at, listed, put_record, is_idle, is_walk, walk_on, has_plan, count_on};
+ghost use Rattle.records.specs.Records.{named_of, parts_of, read_of, put_words, put_record, is_idle, is_walk, walk_on, has_plan, count_on};
 
-use protocol::{Kind, Phase, Work, Worker};
+use numbers::{INSERT, LEAF, LOOKUP, NO_WORK, REMOVE, WALK};
+use protocol::{Kind, Worker};
+pub use reading::phase_of;
 
+mod noting;
+pub mod numbers;
 mod own;
 mod reading;
 
 // How many words a record has.
 pub const WORDS: usize = 11;
 
-// The numbers of the phases that have no plan: the walk, and the leaf that looks at previous.
-const WALK: u64 = 0;
-
-const LEAF: u64 = 5;
-
 // The words by name. What a phase does not note is 0; a side is 0 for left, 1 for right.
-#[derive(Clone, Copy)]
+#[derive(Clone, Copy, Debug, PartialEq, Eq)]
 pub struct Flat {
     pub work: u64,
     pub key: u64,
@@ -36,319 +35,198 @@ pub struct Flat {
     pub done: u64,
 }
 
-// What lent words are: a record's words by name, or none.
-#[derive(Clone, Copy)]
-pub enum Parts {
-    Words(Flat),
-    Nothing,
-}
+// An idle record's: a walk at the root, which notes nothing.
+const IDLE: Flat = Flat {
+    work: NO_WORK,
+    key: 0,
+    phase: WALK,
+    this: 0,
+    prev: 0,
+    side: 0,
+    before: 0,
+    up: 0,
+    other: 0,
+    toward: 0,
+    done: 0,
+};
 
-// The same, as the record that they are.
-#[derive(Clone, Copy)]
-pub enum Lent {
-    Record(Worker),
-    Nothing,
-}
+// Words that are lent, and what they are
 
-// From a record to words
-
-fn side_number(left: bool) -> u64
-    ensures { result ≡ side_number left }
+// Eleven words by name, whatever they are. It is inline, so that a caller loads the words that it reads and no others.
+#[tactic(auto, using(crate::proofs::Names::few, crate::proofs::Names::many, crate::proofs::Names::just), unfolding(crate::specs::Records::flat_at))]
+#[inline(always)]
+fn named(s: &[u64]) -> Option<Flat>
+    ensures { result ≡ named_of s.now }
 {
-    if left { 0 } else { 1 }
-}
-
-fn kind_number(k: Kind) -> u64
-    ensures { result ≡ kind_number k }
-{
-    match k {
-        Kind::Lookup => 1,
-        Kind::Insert => 2,
-        Kind::Remove => 3,
-    }
-}
-
-fn work_number(w: Work) -> u64
-    ensures { result ≡ work_number w }
-{
-    match w {
-        Work::Idle => 0,
-        Work::Busy(kind) => kind_number(kind),
-    }
-}
-
-fn noted(
-    work: u64,
-    key: u64,
-    phase: u64,
-    this: u64,
-    prev: u64,
-    side: bool,
-    before: u64,
-    up: bool,
-    other: u64,
-    toward: bool,
-    done: u64,
-) -> Flat
-    ensures { result ≡ noted_of work key phase this prev side before up other toward done }
-{
-    Flat {
+    let &[
         work,
         key,
         phase,
         this,
         prev,
-        side: side_number(side),
+        side,
         before,
-        up: side_number(up),
+        up,
         other,
-        toward: side_number(toward),
+        toward,
         done,
-    }
+    ] = s
+    else {
+        return None;
+    };
+    Some(Flat {
+        work,
+        key,
+        phase,
+        this,
+        prev,
+        side,
+        before,
+        up,
+        other,
+        toward,
+        done,
+    })
 }
 
-// Of the phases in which a remover takes the locks of its case, and of the leaf.
-fn remover_flat(w: u64, k: u64, p: Phase) -> Flat
-    ensures { is_remover p ≡ true → result ≡ phase_flat w k p }
-{
-    match p {
-        Phase::One {
-            this,
-            prev,
-            side,
-            child,
-            toward,
-            done,
-        } => noted(w, k, 4, this, prev, side, 0, true, child, toward, done),
-        Phase::Leaf {
-            this,
-            prev,
-            side,
-            before,
-            up,
-        } => noted(w, k, 5, this, prev, side, before, up, 0, true, 0),
-        Phase::UnderData {
-            this,
-            prev,
-            side,
-            done,
-        } => noted(w, k, 6, this, prev, side, 0, true, 0, true, done),
-        Phase::UnderRouting {
-            this,
-            prev,
-            side,
-            before,
-            up,
-            other,
-            done,
-        } => noted(w, k, 7, this, prev, side, before, up, other, true, done),
-        _ => noted(w, k, 0, 0, 0, true, 0, true, 0, true, 0),
-    }
-}
-
-fn phase_flat(w: u64, k: u64, p: Phase) -> Flat
-    ensures { result ≡ phase_flat w k p }
-{
-    match p {
-        Phase::Walk {
-            at,
-            prev,
-            before,
-            side,
-            up,
-        } => noted(w, k, 0, at, prev, side, before, up, 0, true, 0),
-        Phase::OnRouting { this, done } => noted(w, k, 1, this, 0, true, 0, true, 0, true, done),
-        Phase::New { prev, side, done } => noted(w, k, 2, 0, prev, side, 0, true, 0, true, done),
-        Phase::Two { this, done } => noted(w, k, 3, this, 0, true, 0, true, 0, true, done),
-        _ => remover_flat(w, k, p),
-    }
-}
-
-fn flat_of(w: Worker) -> Flat
-    ensures { result ≡ flat_of w }
-{
-    let work = w.work;
-    let phase = w.phase;
-    phase_flat(work_number(work), w.key, phase)
-}
-
-fn flat_at(s: &[u64]) -> Flat
-    requires { length s.now ≡ 11 }
-    ensures { result ≡ flat_at s.now }
-{
-    Flat {
-        work: s[0],
-        key: s[1],
-        phase: s[2],
-        this: s[3],
-        prev: s[4],
-        side: s[5],
-        before: s[6],
-        up: s[7],
-        other: s[8],
-        toward: s[9],
-        done: s[10],
-    }
-}
-
-// The words by name, where they are a record's: they are eleven, and the record's own.
-pub fn take_apart(s: &[u64]) -> Parts
+// The words by name, where they are a record's: they are eleven, and the record's own. It is inline: handing eleven words on
+// costs a step of a plan more than taking them apart.
+#[tactic(auto, using(crate::proofs::TakenApart::no_parts, crate::proofs::TakenApart::own_parts))]
+#[inline(always)]
+pub fn take_apart(s: &[u64]) -> Option<Flat>
     ensures { result ≡ parts_of s.now }
 {
-    if s.len() != WORDS {
-        return Parts::Nothing;
-    }
-    let f = flat_at(s);
-    if own::is_own(f) {
-        return Parts::Words(f);
-    }
-    Parts::Nothing
+    let f = named(s)?;
+    own::is_own(f).then_some(f)
 }
 
-// The record that the words are. It takes them apart by itself, so that `take_apart` has one caller and costs it no call.
-pub fn read(s: &[u64]) -> Lent
+// The record that the words are.
+#[tactic(auto, using(crate::proofs::TakenApart::parts_nothing, crate::proofs::TakenApart::parts_words), unfolding(crate::specs::Records::read_of))]
+pub fn read(s: &[u64]) -> Option<Worker>
     ensures { result ≡ read_of s.now }
 {
-    if s.len() != WORDS {
-        return Lent::Nothing;
-    }
-    let f = flat_at(s);
-    if own::is_own(f) {
-        return Lent::Record(reading::worker_of(f));
-    }
-    Lent::Nothing
+    Some(Worker::from(take_apart(s)?))
 }
 
-// The phase that the words say, for a caller that needs no more of the record.
-pub fn phase_of(f: Flat) -> Phase
-    ensures { result ≡ (worker_at f).phase }
+// Puts the words there; nothing where they do not fit exactly. It is inline, so that a word that stays is not stored again.
+#[inline(always)]
+fn put_words(d: &mut [u64], f: Flat)
+    ensures { d.new ≡ put_words d.old f }
 {
-    reading::phase_of(f)
-}
-
-fn fill(d: &mut [u64], f: Flat)
-    requires { length d.old ≡ 11 }
-    ensures { d.new ≡ listed f }
-{
-    d[0] = f.work;
-    d[1] = f.key;
-    d[2] = f.phase;
-    d[3] = f.this;
-    d[4] = f.prev;
-    d[5] = f.side;
-    d[6] = f.before;
-    d[7] = f.up;
-    d[8] = f.other;
-    d[9] = f.toward;
-    d[10] = f.done;
+    if let Some(words) = d.as_mut_array::<WORDS>() {
+        *words = [
+            f.work, f.key, f.phase, f.this, f.prev, f.side, f.before, f.up, f.other, f.toward,
+            f.done,
+        ];
+    }
 }
 
 // Puts the record's words there; nothing where they do not fit exactly.
+#[tactic(auto, unfolding(crate::specs::Records::put_record, crate::specs::Records::words_of))]
 pub fn put(d: &mut [u64], w: Worker)
     ensures { d.new ≡ put_record d.old w }
 {
-    if d.len() == WORDS {
-        fill(d, flat_of(w));
-    }
+    put_words(d, Flat::from(w));
 }
 
-// An idle record's words, put without making the record.
+// An idle record's words.
+#[tactic(auto, unfolding(crate::specs::Records::put_record, crate::specs::Records::words_of, crate::specs::Records::flat_of))]
 pub fn put_idle(d: &mut [u64])
     ensures { d.new ≡ put_record d.old idle_worker }
 {
-    if d.len() == WORDS {
-        fill(d, noted(0, 0, 0, 0, 0, true, 0, true, 0, true, 0));
-    }
+    put_words(d, IDLE);
 }
 
 // Those of a work that begins: it stands at the root.
+#[tactic(auto, unfolding(crate::specs::Records::put_record, crate::specs::Records::words_of, crate::specs::Records::flat_of))]
 pub fn put_started(d: &mut [u64], kind: Kind, key: u64)
     ensures { d.new ≡ put_record d.old (record { work = Busy kind; key = key; phase = at_root }) }
 {
-    if d.len() == WORDS {
-        fill(
-            d,
-            noted(kind_number(kind), key, 0, 0, 0, true, 0, true, 0, true, 0),
-        );
-    }
+    put_words(
+        d,
+        Flat {
+            work: noting::kind_number(kind),
+            key,
+            ..IDLE
+        },
+    );
 }
 
 // Are they eleven zeros, as `put_idle` leaves them?
 pub fn is_idle(s: &[u64]) -> bool
     ensures { result ≡ is_idle s.now }
 {
-    if s.len() != WORDS {
-        return false;
-    }
-    (s[0] == 0)
-        & (s[1] == 0)
-        & (s[2] == 0)
-        & (s[3] == 0)
-        & (s[4] == 0)
-        & (s[5] == 0)
-        & (s[6] == 0)
-        & (s[7] == 0)
-        & (s[8] == 0)
-        & (s[9] == 0)
-        & (s[10] == 0)
+    named(s) == Some(IDLE)
 }
 
 // A busy walk, which most steps meet
 
 // Are the words a busy walk's?
+#[tactic(auto, using(crate::proofs::Names::unnamed), unfolding(crate::specs::Records::is_walk))]
 pub fn is_walk(s: &[u64]) -> bool
     ensures { result ≡ is_walk s.now }
 {
-    if s.len() != WORDS {
+    let Some(f) = named(s) else {
         return false;
-    }
-    (1 <= s[0])
-        & (s[0] <= 3)
-        & (s[2] == WALK)
-        & (s[5] <= 1)
-        & (s[7] <= 1)
-        & (s[8] == 0)
-        & (s[9] == 0)
-        & (s[10] == 0)
+    };
+    (LOOKUP <= f.work)
+        & (f.work <= REMOVE)
+        & (f.phase == WALK)
+        & (f.side <= 1)
+        & (f.up <= 1)
+        & (f.other == 0)
+        & (f.toward == 0)
+        & (f.done == 0)
 }
 
 // Moves them on to the next slot, on that side of the slot where the walk stood; nothing where they are not eleven.
+#[tactic(auto, using(crate::proofs::Names::named_listed, crate::proofs::Names::unnamed), unfolding(crate::specs::Records::walk_on))]
 pub fn walk_on(s: &mut [u64], next: u64, left: bool)
     ensures { s.new ≡ walk_on s.old next left }
 {
-    if s.len() == WORDS {
-        let at = s[3];
-        let prev = s[4];
-        let side = s[5];
-        s[3] = next;
-        s[4] = at;
-        s[5] = side_number(left);
-        s[6] = prev;
-        s[7] = side;
+    if let Some(f) = named(s) {
+        put_words(
+            s,
+            Flat {
+                this: next,
+                prev: f.this,
+                side: noting::side_number(left),
+                before: f.prev,
+                up: f.side,
+                ..f
+            },
+        );
     }
 }
 
 // A phase of the plan
 
 // Are they of an insert or a remove that neither walks nor looks? (If they are a record's.)
+#[tactic(auto, using(crate::proofs::Names::unnamed), unfolding(crate::specs::Records::has_plan))]
 pub fn has_plan(s: &[u64]) -> bool
     ensures { result ≡ has_plan s.now }
 {
-    if s.len() != WORDS {
+    let Some(f) = named(s) else {
         return false;
-    }
-    (2 <= s[0]) & (s[0] <= 3) & (s[2] != WALK) & (s[2] != LEAF)
+    };
+    (INSERT <= f.work) & (f.work <= REMOVE) & (f.phase != WALK) & (f.phase != LEAF)
 }
 
 // Counts one more action as done. Nothing where the words are not eleven, walk or look, or count nine or more.
+#[tactic(auto, using(crate::proofs::Names::named_listed, crate::proofs::Names::unnamed), unfolding(crate::specs::Records::count_on))]
 pub fn count_on(s: &mut [u64])
     ensures { s.new ≡ count_on s.old }
 {
-    if s.len() == WORDS {
-        let phase = s[2];
-        let done = s[10];
-        if (phase != WALK) & (phase != LEAF) & (done < 9) {
-            s[10] = done + 1;
-        }
+    let Some(f) = named(s) else {
+        return;
+    };
+    if (f.phase != WALK) & (f.phase != LEAF) & (f.done < 9) {
+        put_words(
+            s,
+            Flat {
+                done: f.done + 1,
+                ..f
+            },
+        );
     }
 }

@@ -1,149 +1,122 @@
-// From numbers to a record: whatever the numbers are, something is read.
-ghost use Rattle.std.specs.Prelude.{◌≡◌};
-ghost use Rattle.records.specs.Records.{work_at, under_at, remover_at, phase_at, worker_at};
+// From words to a record: whatever the numbers are, something is read.
+ghost use Rattle.std.specs.Prelude.{◌≡◌, eqb};
+ghost use Rattle.records.specs.Records.{work_at, under_at, worker_at};
 
 use super::Flat;
+use crate::numbers::{
+    INSERT, LEAF, LOOKUP, NEW, ON_ROUTING, ONE, REMOVE, TWO, UNDER_DATA, UNDER_ROUTING,
+};
 use protocol::{Kind, Phase, Work, Worker};
 
+fn is_left(side: u64) -> bool
+    ensures { result ≡ eqb side 0 }
+{
+    side == 0
+}
+
+// Kept: a function, as those of noting.rt: `From` for `Work` must stand in `protocol`.
+#[tactic(auto, unfolding(crate::specs::Records::work_at))]
 fn work_at(n: u64) -> Work
     ensures { result ≡ work_at n }
 {
-    if n == 1 {
-        return Work::Busy(Kind::Lookup);
+    match n {
+        LOOKUP => Work::Busy(Kind::Lookup),
+        INSERT => Work::Busy(Kind::Insert),
+        REMOVE => Work::Busy(Kind::Remove),
+        _ => Work::Idle,
     }
-    if n == 2 {
-        return Work::Busy(Kind::Insert);
-    }
-    if n == 3 {
-        return Work::Busy(Kind::Remove);
-    }
-    Work::Idle
 }
 
-// Phases 6 and 7; of any other number a walk.
-fn under_at(
-    n: u64,
-    this: u64,
-    prev: u64,
-    side: bool,
-    before: u64,
-    up: bool,
-    other: u64,
-    done: u64,
-) -> Phase
-    ensures { result ≡ under_at n this prev side before up other done }
+// Kept: the phases are told by one test after the other, not by a `match`: a `match` hands its value on where its arms
+// join, and `read` takes ten instructions more.
+
+// A remover's phases under a parent; of any other number a walk.
+fn under_of(f: Flat) -> Phase
+    ensures { result ≡ under_at f.phase f.this f.prev (eqb f.side 0) f.before (eqb f.up 0) f.other f.done }
 {
-    if n == 6 {
+    if f.phase == UNDER_DATA {
         return Phase::UnderData {
-            this,
-            prev,
-            side,
-            done,
+            this: f.this,
+            prev: f.prev,
+            side: is_left(f.side),
+            done: f.done,
         };
     }
-    if n == 7 {
+    if f.phase == UNDER_ROUTING {
         return Phase::UnderRouting {
-            this,
-            prev,
-            side,
-            before,
-            up,
-            other,
-            done,
+            this: f.this,
+            prev: f.prev,
+            side: is_left(f.side),
+            before: f.before,
+            up: is_left(f.up),
+            other: f.other,
+            done: f.done,
         };
     }
     Phase::Walk {
-        at: this,
-        prev,
-        before,
-        side,
-        up,
+        at: f.this,
+        prev: f.prev,
+        before: f.before,
+        side: is_left(f.side),
+        up: is_left(f.up),
     }
 }
 
-// Phases 4 to 7; of any other number a walk.
-fn remover_at(
-    n: u64,
-    this: u64,
-    prev: u64,
-    side: bool,
-    before: u64,
-    up: bool,
-    other: u64,
-    toward: bool,
-    done: u64,
-) -> Phase
-    ensures { result ≡ remover_at n this prev side before up other toward done }
-{
-    if n == 4 {
-        return Phase::One {
-            this,
-            prev,
-            side,
-            child: other,
-            toward,
-            done,
-        };
-    }
-    if n == 5 {
-        return Phase::Leaf {
-            this,
-            prev,
-            side,
-            before,
-            up,
-        };
-    }
-    under_at(n, this, prev, side, before, up, other, done)
-}
-
-fn phase_at(
-    n: u64,
-    this: u64,
-    prev: u64,
-    side: bool,
-    before: u64,
-    up: bool,
-    other: u64,
-    toward: bool,
-    done: u64,
-) -> Phase
-    ensures { result ≡ phase_at n this prev side before up other toward done }
-{
-    if n == 1 {
-        return Phase::OnRouting { this, done };
-    }
-    if n == 2 {
-        return Phase::New { prev, side, done };
-    }
-    if n == 3 {
-        return Phase::Two { this, done };
-    }
-    remover_at(n, this, prev, side, before, up, other, toward, done)
-}
-
+// The phase that the words say, for a caller that needs no more of the record.
+#[tactic(auto, unfolding(crate::specs::Records::worker_at, crate::specs::Records::phase_at))]
 pub fn phase_of(f: Flat) -> Phase
     ensures { result ≡ (worker_at f).phase }
 {
-    phase_at(
-        f.phase,
-        f.this,
-        f.prev,
-        f.side == 0,
-        f.before,
-        f.up == 0,
-        f.other,
-        f.toward == 0,
-        f.done,
-    )
+    if f.phase == ON_ROUTING {
+        return Phase::OnRouting {
+            this: f.this,
+            done: f.done,
+        };
+    }
+    if f.phase == NEW {
+        return Phase::New {
+            prev: f.prev,
+            side: is_left(f.side),
+            done: f.done,
+        };
+    }
+    if f.phase == TWO {
+        return Phase::Two {
+            this: f.this,
+            done: f.done,
+        };
+    }
+    if f.phase == ONE {
+        return Phase::One {
+            this: f.this,
+            prev: f.prev,
+            side: is_left(f.side),
+            child: f.other,
+            toward: is_left(f.toward),
+            done: f.done,
+        };
+    }
+    if f.phase == LEAF {
+        return Phase::Leaf {
+            this: f.this,
+            prev: f.prev,
+            side: is_left(f.side),
+            before: f.before,
+            up: is_left(f.up),
+        };
+    }
+    under_of(f)
 }
 
-pub fn worker_of(f: Flat) -> Worker
-    ensures { result ≡ worker_at f }
-{
-    Worker {
-        work: work_at(f.work),
-        key: f.key,
-        phase: phase_of(f),
+impl From<Flat> for Worker {
+    ghost from_gives = { λ f w. w ≡ worker_at f };
+
+    #[tactic(auto, unfolding(crate::specs::Records::worker_at))]
+    fn from(f: Flat) -> Worker {
+        Worker {
+            work: work_at(f.work),
+            key: f.key,
+            phase: phase_of(f),
+        }
     }
 }

@@ -1,162 +1,141 @@
-// What a line asks for: a command by its place in the list of names, and its numbers.
-ghost use Rattle.std.specs.Prelude.{◌<◌};
+// What a line asks for: a command and its numbers.
+ghost use Rattle.std.specs.Prelude.{◌<◌, ◌≤◌, IfSome};
+ghost use Rattle.replay.specs.Asked.{InRange, IsOfTable};
 
-use script::line::{Num, Split};
-use script::{line, names, words};
+use super::desk::{MOST, RECORDS, Size};
+use super::pairs;
+use script::fields::Fields;
+use script::line::{Words, decimal, hexadecimal};
+use script::names::Kind;
+use script::records::Record;
 
-// The commands, in the order of the list.
-pub const TABLE: u64 = 0;
+// How many keys a list may have room for.
+pub const ROOM: usize = 1100;
 
-pub const FRESH: u64 = 1;
-
-pub const POKE: u64 = 2;
-
-pub const SLOT: u64 = 3;
-
-pub const CHECK: u64 = 4;
-
-pub const SWEEP: u64 = 5;
-
-pub const FIRST: u64 = 6;
-
-pub const LIST: u64 = 7;
-
-pub const KEY: u64 = 8;
-
-pub const PAIR: u64 = 9;
-
-pub const START: u64 = 10;
-
-pub const STEP: u64 = 11;
-
-pub const WITHDRAW: u64 = 12;
-
-pub const RUN: u64 = 13;
-
-pub const IDLE: u64 = 14;
-
-pub const RECORD: u64 = 15;
-
-pub const SET: u64 = 16;
-
-pub const PUT: u64 = 17;
-
-pub const BAD: u64 = 18;
-
-// What a number of a command is: 0 none, 1 decimal, 2 hexadecimal, 3 a kind of work. Three for each command.
-const FORMS: [u8; 54] = [
-    1, 0, 0, 0, 0, 0, 1, 2, 0, 1, 0, 0, 0, 0, 0, 0, 0, 0, 2, 0, 0, 2, 2, 1, 1, 2, 0, 1, 0, 0, 1, 3,
-    2, 1, 0, 0, 1, 0, 0, 1, 0, 0, 1, 0, 0, 1, 0, 0, 1, 0, 0, 1, 0, 0,
-];
-
-// The longest table: the words of the buffer. The most keys that a list may have room for. How many records there are.
-const MOST: u64 = 2200;
-
-const ROOM: u64 = 1100;
-
-pub const RECORDS: u64 = 32;
-
-// A command and its numbers; what it does not have is 0.
+// A command: another table, or what is done with the table or with a record.
 #[derive(Clone, Copy)]
-pub struct Asked {
-    pub command: u64,
-    pub x: u64,
-    pub y: u64,
-    pub z: u64,
+pub enum Command {
+    Table(Size),
+    OnTable(Act),
+    OnRecord(usize, Deed),
 }
 
-fn bad() -> Asked {
-    Asked {
-        command: BAD,
-        x: 0,
-        y: 0,
-        z: 0,
-    }
+// What is done with the table.
+#[derive(Clone, Copy)]
+pub enum Act {
+    Fresh,
+    Poke { place: usize, word: u64 },
+    Slot(u64),
+    Key { slot: u64, key: u64 },
+    Put { slot: u64, fields: Fields },
+    Pair(u64),
+    Check,
+    List { low: u64, high: u64, room: usize },
+    First(u64),
+    Sweep,
 }
 
-// Lookup, insert or remove.
-fn kind(s: &[u8], from: usize, to: usize) -> Num {
-    let work = words::work_named(s, from, to);
-    match work {
-        0 | 4 => Num::Bad,
-        _ => Num::Value(work),
-    }
+// What is done with a record.
+#[derive(Clone, Copy)]
+pub enum Deed {
+    Start(Kind, u64),
+    Step,
+    Withdraw,
+    Run,
+    Print,
+    Set(Record),
 }
 
-fn one_number(s: &[u8], from: usize, to: usize, form: u8) -> Num {
-    match form {
-        1 => line::decimal(s, from, to),
-        2 => line::hexadecimal(s, from, to),
-        _ => kind(s, from, to),
-    }
-}
-
-// The numbers of a command, and no word more but for `set` and `put`, the last of the list: their other words are read
-// where they are carried out.
-fn numbers(s: &[u8], w: Split, command: u64) -> Asked
-    requires { command < 18 }
+// What a line asks for, where the table has so many words. A line that asks for nothing there is gives none.
+pub fn ask(line: &str, size: usize) -> Option<Command>
+    ensures { IfSome result (InRange size) }
 {
-    let from = w.from;
-    let to = w.to;
-    let mut v = [0u64; 3];
-    let mut i = 0;
-    let mut words = 1;
-    while i < 3 {
-        let form = FORMS[command as usize * 3 + i];
-        i += 1;
-        if form != 0 {
-            let said = one_number(s, from[i], to[i], form);
-            match said {
-                Num::Bad => {
-                    return bad();
-                }
-                Num::Value(n) => {
-                    v[i - 1] = n;
-                }
-            }
-            words = i + 1;
+    let mut words = line.split(' ');
+    let asked = read_command(&mut words, size)?;
+    match words.next() {
+        None => Some(asked),
+        Some(_) => None,
+    }
+}
+
+fn read_command(words: &mut Words<'_>, size: usize) -> Option<Command>
+    ensures { IfSome result (InRange size) }
+{
+    let name = words.next()?;
+    match name {
+        "table" => Some(Command::Table(Size {
+            words: up_to(MOST, words)?,
+        })),
+        "start" | "step" | "withdraw" | "run" | "idle" | "record" | "set" => Some(Command::OnRecord(
+            below(RECORDS, words)?,
+            read_deed(name, words)?,
+        )),
+        _ => Some(Command::OnTable(read_act(name, words, size)?)),
+    }
+}
+
+fn read_act(name: &str, words: &mut Words<'_>, size: usize) -> Option<Act>
+    ensures { IfSome result (IsOfTable size) }
+{
+    let slots = size / 2;
+    match name {
+        "fresh" => Some(Act::Fresh),
+        "poke" => Some(Act::Poke {
+            place: below(size, words)?,
+            word: hexadecimal(words.next()?)?,
+        }),
+        "slot" => Some(Act::Slot(below(slots, words)? as u64)),
+        "key" => Some(Act::Key {
+            slot: below(slots, words)? as u64,
+            key: hexadecimal(words.next()?)?,
+        }),
+        "put" => {
+            let slot = below(slots, words)? as u64;
+            Some(Act::Put {
+                slot,
+                fields: pairs::read(slot, words)?,
+            })
         }
-    }
-    if (w.count != words) & (command < SET) {
-        return bad();
-    }
-    Asked {
-        command,
-        x: v[0],
-        y: v[1],
-        z: v[2],
-    }
-}
-
-// Are the numbers in range, where the table has so many words?
-fn fine(a: Asked, size: u64) -> bool {
-    let command = a.command;
-    match command {
-        TABLE => a.x <= MOST,
-        POKE => a.x < size,
-        SLOT | KEY | PAIR | PUT => a.x < size / 2,
-        FIRST => true,
-        LIST => a.z <= ROOM,
-        _ => a.x < RECORDS,
+        "pair" => Some(Act::Pair(below(slots, words)? as u64)),
+        "check" => Some(Act::Check),
+        "list" => Some(Act::List {
+            low: hexadecimal(words.next()?)?,
+            high: hexadecimal(words.next()?)?,
+            room: up_to(ROOM, words)?,
+        }),
+        "first" => Some(Act::First(hexadecimal(words.next()?)?)),
+        "sweep" => Some(Act::Sweep),
+        _ => None,
     }
 }
 
-// What a line asks for that has as many words as its command wants.
-pub fn ask(s: &[u8], w: Split, size: u64) -> Asked {
-    let from = w.from;
-    let to = w.to;
-    let command = names::place(
-        s,
-        from[0],
-        to[0],
-        b"table fresh poke slot check sweep first list key pair start step withdraw run idle record set put",
-    );
-    if BAD <= command {
-        return bad();
+fn read_deed(name: &str, words: &mut Words<'_>) -> Option<Deed> {
+    match name {
+        "start" => {
+            let kind = words.next()?.parse().ok()?;
+            Some(Deed::Start(kind, hexadecimal(words.next()?)?))
+        }
+        "step" => Some(Deed::Step),
+        "withdraw" => Some(Deed::Withdraw),
+        "run" => Some(Deed::Run),
+        "idle" => Some(Deed::Set(Record::IDLE)),
+        "record" => Some(Deed::Print),
+        "set" => Some(Deed::Set(Record::read(words)?)),
+        _ => None,
     }
-    let a = numbers(s, w, command);
-    if fine(a, size) {
-        return a;
-    }
-    bad()
+}
+
+// The next word as a decimal number up to a limit, which it may reach.
+fn up_to(most: usize, words: &mut Words<'_>) -> Option<usize>
+    ensures { IfSome result (λ n. n ≤ most) }
+{
+    let n = decimal(words.next()?)? as usize;
+    if n <= most { Some(n) } else { None }
+}
+
+// The next word as a decimal number below a limit.
+fn below(limit: usize, words: &mut Words<'_>) -> Option<usize>
+    ensures { IfSome result (λ n. n < limit) }
+{
+    up_to(limit.checked_sub(1)?, words)
 }

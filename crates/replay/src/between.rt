@@ -1,107 +1,75 @@
-// The commands on a table alone.
-use super::asked::{CHECK, FIRST, FRESH, KEY, LIST, PAIR, POKE, SLOT, SWEEP};
+// What is done with the table alone.
+use super::asked::{Act, ROOM};
 use super::pairs;
 use abi::between;
-use script::answers;
+use script::answers::{self, Answer};
 use std::io::{self, Write};
 
-fn poke<W: Write>(out: &mut W, table: &mut [u64], i: u64, v: u64) -> io::Result<()> {
-    if i < table.len() as u64 {
-        table[i as usize] = v;
-        answers::done(out)?;
+// What is asked for is there, as `ask` promises.
+pub fn carry_out<W: Write>(out: &mut W, table: &mut [u64], act: Act) -> io::Result<()> {
+    match act {
+        Act::Fresh => answers::reply(out, Answer::from(between::pannuqreik_fresh(table))),
+        Act::Poke { place, word } => {
+            if let Some(there) = table.get_mut(place) {
+                *there = word;
+            }
+            answers::done(out)
+        }
+        Act::Slot(slot) => {
+            let key = table::key(table, slot);
+            writeln!(out, "{key:016X} {:016X}", table::fields(table, slot))
+        }
+        Act::Key { slot, key } => {
+            table::set_key(table, slot, key);
+            answers::done(out)
+        }
+        Act::Put { slot, fields } => {
+            pairs::set(table, slot, &fields);
+            answers::done(out)
+        }
+        Act::Pair(slot) => pairs::show(out, table, slot),
+        Act::Check => check(out, table),
+        Act::List { low, high, room } => {
+            list(out, table, low, high, &mut [0; ROOM][..room.min(ROOM)])
+        }
+        Act::First(from) => first(out, table, from),
+        Act::Sweep => answers::reply(out, Answer::from(between::pannuqreik_sweep(table))),
     }
-    Ok(())
-}
-
-fn show_slot<W: Write>(out: &mut W, table: &[u64], i: u64) -> io::Result<()> {
-    if table.len() as u64 / 2 <= i {
-        return Ok(());
-    }
-    let at = 2 * i as usize;
-    answers::hexadecimal(out, table[at])?;
-    answers::text(out, b" ")?;
-    answers::hexadecimal(out, table[at + 1])?;
-    answers::text(out, b"\n")
 }
 
 fn check<W: Write>(out: &mut W, table: &[u64]) -> io::Result<()> {
-    let said = between::pannuqreik_check(table);
-    match said {
-        16 => answers::text(out, b"sound")?,
-        17 => answers::text(out, b"unsound")?,
-        _ => answers::refused(out, said)?,
+    match Answer::from(between::pannuqreik_check(table)) {
+        Answer::Yes => writeln!(out, "sound"),
+        Answer::No => writeln!(out, "unsound"),
+        said => writeln!(out, "{said}"),
     }
-    answers::text(out, b"\n")
 }
 
 fn first<W: Write>(out: &mut W, table: &[u64], from: u64) -> io::Result<()> {
     let mut key = 0;
-    let said = between::pannuqreik_first(table, from, &mut key);
-    if said == 0 {
-        answers::hexadecimal(out, key)?;
-    } else {
-        answers::refused(out, said)?;
+    match Answer::from(between::pannuqreik_first(table, from, &mut key)) {
+        Answer::Done => writeln!(out, "{key:016X}"),
+        said => writeln!(out, "{said}"),
     }
-    answers::text(out, b"\n")
 }
 
-// The first n of the keys, a blank before each.
-fn print_keys<W: Write>(out: &mut W, keys: &[u64], n: u64) -> io::Result<()> {
-    let mut i = 0;
-    while i < keys.len() {
-        if n <= i as u64 {
-            return Ok(());
-        }
-        answers::text(out, b" ")?;
-        answers::hexadecimal(out, keys[i])?;
-        i += 1;
-    }
-    Ok(())
-}
-
-// The list has room for the first `room` words of `keys`.
+// Prints how many keys there are, and the keys.
 fn list<W: Write>(
     out: &mut W,
     table: &[u64],
     low: u64,
     high: u64,
     keys: &mut [u64],
-    room: u64,
 ) -> io::Result<()> {
-    if (keys.len() as u64) < room {
-        return Ok(());
-    }
     let mut count = 0;
-    let said = between::pannuqreik_list(table, low, high, &mut keys[..room as usize], &mut count);
-    if said == 0 {
-        answers::decimal(out, count)?;
-        print_keys(out, keys, count)?;
-    } else {
-        answers::refused(out, said)?;
-    }
-    answers::text(out, b"\n")
-}
-
-// Carries out a command on the table.
-pub fn carry_out<W: Write>(
-    out: &mut W,
-    table: &mut [u64],
-    command: u64,
-    x: u64,
-    y: u64,
-    z: u64,
-) -> io::Result<()> {
-    let mut keys = [0u64; 1100];
-    match command {
-        FRESH => answers::reply(out, between::pannuqreik_fresh(table)),
-        POKE => poke(out, table, x, y),
-        SLOT => show_slot(out, table, x),
-        CHECK => check(out, table),
-        SWEEP => answers::reply(out, between::pannuqreik_sweep(table)),
-        FIRST => first(out, table, x),
-        LIST => list(out, table, x, y, &mut keys, z),
-        KEY => pairs::key(out, table, x, y),
-        PAIR => pairs::show(out, table, x),
-        _ => Ok(()),
+    match Answer::from(between::pannuqreik_list(table, low, high, keys, &mut count)) {
+        Answer::Done => {
+            write!(out, "{count}")?;
+            for key in keys.iter().take(count as usize) {
+                write!(out, " {key:016X}")?;
+            }
+            writeln!(out)
+        }
+        said => writeln!(out, "{said}"),
     }
 }

@@ -6,7 +6,7 @@ use mathlib.Core.List.{List}
 use mathlib.Core.Logic.{◌≢◌}
 use Prim.Native.Nat.{ℕ, ◌+◌, ◌≤◌, ◌<◌}
 use native.Mathlib.Omega.{arith}
-use Rattle.moment.specs.Said.{Said, gives, refuses}
+use Rattle.refusal.specs.Said.{Said, gives, refuses}
 use Rattle.moment.proofs.Tests.{by_cases}
 use Rattle.table.specs.Rules.{table_fine}
 use Rattle.protocol.specs.Says.{Verdict, going, yes, no, full}
@@ -116,13 +116,14 @@ module _ {most : ℕ} {ws s : List ℕ} {made : ℕ} {vs t : List ℕ} (m : Last
       let o = m.of_no_record r in
       (as_none verdict_number ws s _ r (q.0 ∙ ap unread_number o.2) (q.1 ∙ o.1) (q.2 ∙ o.2), rw (r, o.0) refl)
 
-  no_more : most ≤ made → 0 < most → (b : Bool) → is_record s ≡ b → ToEnd most ws s 0 made t vs
+  no_more : most ≤ made → 0 < most → (b : Bool) → is_record s ≡ b → ToEnd most ws s 0 most t vs
   unfolding steps_made
   no_more l h true r =
+      let k : most ≡ made = omega (arith, l, (m.of_a_record r).within) in
       let e = sym (made_all (m.of_a_record r) l) in (
         as_record verdict_number ws s _ r (ap (λ (x : Ran). verdict_number x.call.says) e)
             (sym (record_words t (m.reads ∙ r)) ∙ ap (λ (x : Ran). words_of x.call.worker) e) (ap (λ (x : Ran). x.call.words) e),
-        rw r (ap (λ (x : Ran). x.steps) e),
+        rw r (k ∙ ap (λ (x : Ran). x.steps) e),
       )
   no_more l h false r = absurd (omega (arith, (m.of_no_record r).0))
 
@@ -134,7 +135,7 @@ module _ {most : ℕ} {ws s : List ℕ} {made : ℕ} {vs t : List ℕ} (m : Last
       → ToEnd most ws s n (made + 1) t' vs'
   lasts_last l p z = the_last l p z (is_record s) refl
 
-  pub lasts_all : most ≤ made → 0 < most → ToEnd most ws s 0 made t vs
+  pub lasts_all : most ≤ made → 0 < most → ToEnd most ws s 0 most t vs
   lasts_all l h = no_more l h (is_record s) refl
 
 -- where these are the most steps of a worker alone

@@ -3,7 +3,7 @@
 -- lost, and the caller goes on with it or withdraws it.
 -- Assumes nothing.
 use Rattle.std.specs.Prelude.{◌≡◌, Bool, true, false, cond, List, ◌≢◌, ℕ, zero, suc, ◌+◌, ◌≤◌}
-use Rattle.moment.specs.Said.{Said, gives, refuses}
+use Rattle.refusal.specs.Said.{Said, gives, refuses}
 use Rattle.table.specs.Pair.{slots_of}
 use Rattle.protocol.specs.Says.{Verdict, going, yes, no, full}
 use Rattle.protocol.specs.Step.{Call, refused, step_of, idle_worker}

@@ -5,13 +5,13 @@ ghost use Rattle.runs.specs.Whole.{most_steps, goes_on, steps_of, whole_of};
 ghost use Rattle.runs.specs.Running.{Comes};
 
 use protocol::{Answer, Kind, Worker};
-use table::Reply;
+use refusal::Refusal;
 use worker::{start, step};
 
 // What steps came to: the last answer, the record after it, and how many steps were made.
-#[derive(Clone, Copy)]
+#[derive(Clone, Copy, Debug, PartialEq, Eq, Hash)]
 pub struct Ran {
-    pub answer: Answer,
+    pub answer: Result<Answer, Refusal>,
     pub worker: Worker,
     pub steps: u64,
 }
@@ -26,41 +26,32 @@ pub fn most_steps(words: &[u64]) -> u64
     table::slots(words) + BESIDES
 }
 
-fn goes_on(a: Answer) -> bool
+fn goes_on(a: Result<Answer, Refusal>) -> bool
     ensures { result ≡ goes_on (answer_says a) }
 {
-    match a {
-        Answer::Going => true,
-        Answer::Yes => false,
-        Answer::No => false,
-        Answer::Full => false,
-        Answer::Refused(_) => false,
-    }
+    matches!(a, Ok(Answer::Going))
 }
 
 // At most so many steps, until one answers something else than Going.
 pub fn steps(words: &mut [u64], w: Worker, most: u64) -> Ran
     ensures { Comes (steps_of most words.old w) result.answer result.worker result.steps words.new }
 {
-    let mut u = w;
-    let mut made = 0;
-    while made < most {
-        let s = step(words, u);
-        u = s.worker;
-        made += 1;
-        let answer = s.answer;
-        if !goes_on(answer) {
+    let mut worker = w;
+    for made in 0..most {
+        let s = step(words, worker);
+        worker = s.worker;
+        if !goes_on(s.answer) {
             return Ran {
-                answer,
-                worker: u,
-                steps: made,
+                answer: s.answer,
+                worker,
+                steps: made + 1,
             };
         }
     }
     Ran {
-        answer: Answer::Going,
-        worker: u,
-        steps: made,
+        answer: Ok(Answer::Going),
+        worker,
+        steps: most,
     }
 }
 
@@ -70,13 +61,11 @@ pub fn whole(words: &mut [u64], w: Worker, kind: Kind, key: u64) -> Ran
     ensures { Comes (whole_of words.old w kind key) result.answer result.worker result.steps words.new }
 {
     let begun = start(words, w, kind, key);
-    let u = begun.worker;
-    let reply = begun.reply;
-    match reply {
-        Reply::Done => steps(words, u, most_steps(words)),
-        Reply::Refusal(n) => Ran {
-            answer: Answer::Refused(n),
-            worker: u,
+    match begun.reply {
+        Ok(()) => steps(words, begun.worker, most_steps(words)),
+        Err(e) => Ran {
+            answer: Err(e),
+            worker: begun.worker,
             steps: 0,
         },
     }

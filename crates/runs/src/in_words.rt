@@ -12,7 +12,7 @@ use calls::{start, step};
 use protocol::Kind;
 
 // What steps came to: the number of the last answer, and how many steps were made.
-#[derive(Clone, Copy)]
+#[derive(Clone, Copy, Debug, PartialEq, Eq, Hash)]
 pub struct Ended {
     pub answer: u64,
     pub steps: u64,
@@ -24,20 +24,18 @@ pub fn to_end(words: &mut [u64], lent: &mut [u64]) -> Ended
     ensures { Comes verdict_number words.old lent.old (rest_of words.old (worker_of lent.old)).call result.answer lent.new words.new × (result.steps ≡ steps_made lent.old (rest_of words.old (worker_of lent.old))) }
 {
     let most = most_steps(words);
-    let mut made = 0;
-    while made < most {
+    for made in 0..most {
         let answer = step(words, lent);
-        made += 1;
         if answer != FINE {
             return Ended {
                 answer,
-                steps: made,
+                steps: made + 1,
             };
         }
     }
     Ended {
         answer: FINE,
-        steps: made,
+        steps: most,
     }
 }
 
@@ -49,6 +47,5 @@ pub fn whole(words: &mut [u64], lent: &mut [u64], kind: Kind, key: u64) -> u64
     if begun != FINE {
         return begun;
     }
-    let ended = to_end(words, lent);
-    ended.answer
+    to_end(words, lent).answer
 }

@@ -1,93 +1,77 @@
-// What is printed: one line an answer. Each function writes to the writer that it is lent; what could not be written is its error.
-ghost use Rattle.std.specs.Prelude.{◌≡◌, ◌≢◌, OnOk, ◌++◌, codes};
+// What is printed for a call, one line an answer. What could not be written is the error of the writer that is lent.
+ghost use Rattle.std.specs.Prelude.{◌≡◌, ◌≢◌, OnOk, ◌++◌, codes, Some};
 ghost use Rattle.std.specs.Fmt.{decimal};
 ghost use Rattle.std.specs.Io.KnownBytes.{Appends};
+ghost use Rattle.script.specs.Answers.{answer_of, answer_text};
 
+use std::fmt;
 use std::io::{self, Write};
 
-pub fn text<W: Write>(out: &mut W, s: &[u8]) -> io::Result<()>
-    ensures { OnOk result (Appends (W.contents out.old) (W.contents out.new) s.now) }
-{
-    out.write_all(s)
+// What a call of the library says; its numbers are those of the C header.
+#[derive(Clone, Copy, Debug, PartialEq, Eq)]
+pub enum Answer {
+    Done,
+    Full,
+    Yes,
+    No,
+    Refused(u64),
 }
 
-pub fn decimal<W: Write>(out: &mut W, n: u64) -> io::Result<()>
-    ensures { OnOk result (Appends (W.contents out.old) (W.contents out.new) (decimal n)) }
-{
-    write!(out, "{n}")
-}
+impl From<u64> for Answer {
+    ghost from_gives = { λ n a. a ≡ answer_of n };
 
-// One upper-case digit of base 16.
-fn digit(d: u64) -> u8 {
-    let n = (d % 16) as u8;
-    if n < 10 { b'0' + n } else { b'A' + (n - 10) }
-}
-
-fn sixteen<W: Write>(out: &mut W, digits: &[u8; 16]) -> io::Result<()>
-    ensures { OnOk result (Appends (W.contents out.old) (W.contents out.new) digits.now) }
-{
-    out.write_all(digits)
-}
-
-// Sixteen upper-case digits.
-pub fn hexadecimal<W: Write>(out: &mut W, n: u64) -> io::Result<()> {
-    let mut digits = [0u8; 16];
-    let mut rest = n;
-    let mut i = 16;
-    while 0 < i {
-        i -= 1;
-        digits[i] = digit(rest);
-        rest /= 16;
+    fn from(number: u64) -> Answer {
+        match number {
+            0 => Answer::Done,
+            5 => Answer::Full,
+            16 => Answer::Yes,
+            17 => Answer::No,
+            _ => Answer::Refused(number),
+        }
     }
-    sixteen(out, &digits)
+}
+
+impl fmt::Display for Answer {
+    ghost output = { λ a. Some (answer_text a) };
+
+    fn fmt<W: fmt::Write>(&self, f: &mut fmt::Formatter<W>) -> fmt::Result {
+        match self {
+            Answer::Done => write!(f, "done"),
+            Answer::Full => write!(f, "full"),
+            Answer::Yes => write!(f, "yes"),
+            Answer::No => write!(f, "no"),
+            Answer::Refused(number) => write!(f, "refused {number}"),
+        }
+    }
 }
 
 pub fn bad<W: Write>(out: &mut W, line: u64) -> io::Result<()>
     ensures { OnOk result (Appends (W.contents out.old) (W.contents out.new) (codes "bad " ++ decimal line ++ codes "\n")) }
 {
-    text(out, b"bad ")?;
-    decimal(out, line)?;
-    text(out, b"\n")
+    writeln!(out, "bad {line}")
 }
 
 pub fn done<W: Write>(out: &mut W) -> io::Result<()>
     ensures { OnOk result (Appends (W.contents out.old) (W.contents out.new) (codes "done\n")) }
 {
-    text(out, b"done\n")
+    writeln!(out, "done")
 }
 
-// What a call says, by its number: `fine` stands for what it does with no more to say.
-pub fn verdict<W: Write>(out: &mut W, n: u64, fine: &[u8]) -> io::Result<()>
-    ensures fine { n ≡ 0 → OnOk result (Appends (W.contents out.old) (W.contents out.new) fine.now) }
-    ensures full { n ≡ 5 → OnOk result (Appends (W.contents out.old) (W.contents out.new) (codes "full")) }
-    ensures yes { n ≡ 16 → OnOk result (Appends (W.contents out.old) (W.contents out.new) (codes "yes")) }
-    ensures no { n ≡ 17 → OnOk result (Appends (W.contents out.old) (W.contents out.new) (codes "no")) }
-    ensures refused { n ≢ 0 → n ≢ 5 → n ≢ 16 → n ≢ 17 → OnOk result (Appends (W.contents out.old) (W.contents out.new) (codes "refused " ++ decimal n)) }
+// What a call says: `fine` stands for what it does with no more to say.
+pub fn verdict<W: Write>(out: &mut W, said: Answer, fine: &str) -> io::Result<()>
+    ensures fine { said ≡ Answer.Done → OnOk result (Appends (W.contents out.old) (W.contents out.new) fine.now) }
+    ensures told { said ≢ Answer.Done → OnOk result (Appends (W.contents out.old) (W.contents out.new) (answer_text said)) }
 {
-    match n {
-        0 => text(out, fine),
-        5 => text(out, b"full"),
-        16 => text(out, b"yes"),
-        17 => text(out, b"no"),
-        _ => refused(out, n),
+    match said {
+        Answer::Done => write!(out, "{fine}"),
+        _ => write!(out, "{said}"),
     }
 }
 
-pub fn refused<W: Write>(out: &mut W, n: u64) -> io::Result<()>
-    ensures { OnOk result (Appends (W.contents out.old) (W.contents out.new) (codes "refused " ++ decimal n)) }
-{
-    text(out, b"refused ")?;
-    decimal(out, n)
-}
-
 // The same for a call that does what it is asked for, or refuses.
-pub fn reply<W: Write>(out: &mut W, n: u64) -> io::Result<()>
-    ensures done { n ≡ 0 → OnOk result (Appends (W.contents out.old) (W.contents out.new) (codes "done\n")) }
-    ensures full { n ≡ 5 → OnOk result (Appends (W.contents out.old) (W.contents out.new) (codes "full\n")) }
-    ensures yes { n ≡ 16 → OnOk result (Appends (W.contents out.old) (W.contents out.new) (codes "yes\n")) }
-    ensures no { n ≡ 17 → OnOk result (Appends (W.contents out.old) (W.contents out.new) (codes "no\n")) }
-    ensures refused { n ≢ 0 → n ≢ 5 → n ≢ 16 → n ≢ 17 → OnOk result (Appends (W.contents out.old) (W.contents out.new) (codes "refused " ++ decimal n ++ codes "\n")) }
+pub fn reply<W: Write>(out: &mut W, said: Answer) -> io::Result<()>
+    ensures { OnOk result (Appends (W.contents out.old) (W.contents out.new) (answer_text said ++ codes "\n")) }
 {
-    verdict(out, n, b"done")?;
-    text(out, b"\n")
+    verdict(out, said, "done")?;
+    writeln!(out)
 }

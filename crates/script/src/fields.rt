@@ -1,71 +1,77 @@
 // A slot's fields as words of a line, printed and read: the state by name, `links` and two numbers, `locks` and three, and
-// for the root `busy` and one. The fields themselves are seven numbers: state, left link, right link, the locks of the
-// state, the left edge and the right edge, and how many workers are busy, which is 0 for every other slot.
-ghost use Rattle.std.specs.Prelude.{OnOk, ◌++◌, codes};
-ghost use Rattle.std.specs.Fmt.{decimal};
-ghost use Rattle.std.specs.Io.KnownBytes.{Appends};
+// for the root `busy` and one.
+ghost use Rattle.std.specs.Prelude.{Some, IfSome, IsSome, IsTrue, ◌↔◌};
 
-use super::line::{Num, Split};
-use super::{answers, line, names};
-use std::io::{self, Write};
+use super::line::{Words, decimal};
+use super::names::State;
+use std::fmt;
 
-fn print_number<W: Write>(out: &mut W, n: u64) -> io::Result<()>
-    ensures { OnOk result (Appends (W.contents out.old) (W.contents out.new) (codes " " ++ decimal n)) }
-{
-    answers::text(out, b" ")?;
-    answers::decimal(out, n)
+// The fields of a slot. The root alone says how many workers are busy.
+#[derive(Clone, Copy, Debug, PartialEq, Eq)]
+pub struct Fields {
+    pub state: State,
+    pub left: u64,
+    pub right: u64,
+    pub own_lock: u64,
+    pub left_lock: u64,
+    pub right_lock: u64,
+    pub busy: Option<u64>,
 }
 
-pub fn print<W: Write>(out: &mut W, f: &[u64; 7], root: bool) -> io::Result<()> {
-    names::print(out, b"free data routing deleted", f[0])?;
-    answers::text(out, b" links")?;
-    print_number(out, f[1])?;
-    print_number(out, f[2])?;
-    answers::text(out, b" locks")?;
-    print_number(out, f[3])?;
-    print_number(out, f[4])?;
-    print_number(out, f[5])?;
-    if root {
-        answers::text(out, b" busy")?;
-        print_number(out, f[6])?;
-    }
-    Ok(())
-}
+impl fmt::Display for Fields {
+    ghost use Rattle.script.specs.Fields.{fields_text};
 
-// A word as a number; what is none is more than any field holds.
-fn number(s: &[u8], from: usize, to: usize) -> u64 {
-    let said = line::decimal(s, from, to);
-    match said {
-        Num::Bad => u64::MAX,
-        Num::Value(n) => n,
+    ghost output = { λ x. Some (fields_text x) };
+
+    fn fmt<W: fmt::Write>(&self, f: &mut fmt::Formatter<W>) -> fmt::Result {
+        write!(f, "{} links {} {}", self.state, self.left, self.right)?;
+        write!(
+            f,
+            " locks {} {} {}",
+            self.own_lock, self.left_lock, self.right_lock
+        )?;
+        match self.busy {
+            Some(busy) => write!(f, " busy {busy}"),
+            None => Ok(()),
+        }
     }
 }
 
-// Is the line `put I STATE links L R locks S L R`, for the root with `busy N` behind it, and no word more?
-fn whole(s: &[u8], w: Split, root: bool) -> bool {
-    let from = w.from;
-    let to = w.to;
-    let links = line::is_word(s, from[3], to[3], b"links");
-    let locks = line::is_word(s, from[6], to[6], b"locks");
-    let busy = line::is_word(s, from[10], to[10], b"busy");
-    let words = if root { 12 } else { 10 };
-    links & locks & (busy == root) & (w.count == words)
+// Takes the next word, which is to be this one.
+fn keyword(words: &mut Words<'_>, name: &str) -> Option<()> {
+    if words.next()? == name {
+        Some(())
+    } else {
+        None
+    }
 }
 
-// The fields that the words from the third on say; false where the line is no such line. What is no state or no number
-// comes out as more than its field holds, as a number may: the caller sees whether the fields hold what is said.
-pub fn parse(s: &[u8], w: Split, root: bool, f: &mut [u64; 7]) -> bool {
-    let from = w.from;
-    let to = w.to;
-    f[0] = names::place(s, from[2], to[2], b"free data routing deleted");
-    f[1] = number(s, from[4], to[4]);
-    f[2] = number(s, from[5], to[5]);
-    f[3] = number(s, from[7], to[7]);
-    f[4] = number(s, from[8], to[8]);
-    f[5] = number(s, from[9], to[9]);
-    f[6] = 0;
-    if root {
-        f[6] = number(s, from[11], to[11]);
+impl Fields {
+    // The fields that the next words say, of the root or of another slot. A number may be more than its field holds.
+    pub fn read(words: &mut Words<'_>, root: bool) -> Option<Fields>
+        ensures { IfSome result (λ f. IsSome f.busy ↔ IsTrue root) }
+    {
+        let state = words.next()?.parse().ok()?;
+        keyword(words, "links")?;
+        let left = decimal(words.next()?)?;
+        let right = decimal(words.next()?)?;
+        keyword(words, "locks")?;
+        let own_lock = decimal(words.next()?)?;
+        let left_lock = decimal(words.next()?)?;
+        let right_lock = decimal(words.next()?)?;
+        let mut busy = None;
+        if root {
+            keyword(words, "busy")?;
+            busy = Some(decimal(words.next()?)?);
+        }
+        Some(Fields {
+            state,
+            left,
+            right,
+            own_lock,
+            left_lock,
+            right_lock,
+            busy,
+        })
     }
-    whole(s, w, root)
 }

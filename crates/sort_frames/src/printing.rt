@@ -1,95 +1,93 @@
 // Lines wait in a buffer until it is full, and are written in one call.
-ghost use Rattle.std.specs.Prelude.{◌≡◌, ◌≤◌, length, take, IsOk, IsErr};
+ghost use Rattle.std.specs.Prelude.{◌≡◌, ◌≤◌, length, true, false, [], IsOk, IsErr};
 ghost use Rattle.std.specs.Io.KnownBytes.{Appends};
+ghost use Rattle.moment.specs.Key.{legal_of};
+ghost use Rattle.printed.specs.Printing.{refused_line, already_line, frame_line};
 
-use printed::FrameLine;
+use arrayvec::ArrayVec;
 use std::io::{self, Write};
 
-// Where the bytes are written, and what the writes said: after one that failed nothing more is written. So a line that only
-// waits hands on no error.
+// How many bytes wait at most: the lines of a full table fit in, and a larger buffer would only be zeroed.
+const ROOM: usize = 48 << 10;
+
+// The room for one line.
+const LINE: usize = 128;
+
+// Where the bytes are written, those that wait, and what the writes said: after one that failed nothing more is written. So
+// a line that only waits hands on no error.
 #[derive(Drop)]
 pub struct Paper<W> {
-    pub to: W,
+    to: W,
+    waiting: ArrayVec<u8, ROOM>,
     pub said: io::Result<()>,
 }
 
-// Writes the bytes that wait.
-pub fn write_out<W: Write>(paper: &mut Paper<W>, out: &[u8], waiting: usize)
-    ensures stopped { IsErr paper.old.said → paper.new ≡ paper.old }
-    ensures written { IsOk paper.new.said → waiting ≤ length out.now → Appends (W.contents paper.old.to) (W.contents paper.new.to) (take waiting out.now) }
-{
-    if (waiting <= out.len()) & paper.said.is_ok() {
-        paper.said = paper.to.write_all(&out[..waiting]);
+impl<W: Write> Paper<W> {
+    ghost use Rattle.sort_frames.specs.Paper.{Prints};
+
+    pub fn new(to: W) -> Self
+        ensures to { result.to ≡ to }
+        ensures empty { result.waiting.items ≡ [] }
+        ensures fine { IsOk result.said }
+    {
+        Paper {
+            to,
+            waiting: ArrayVec::new(),
+            said: Ok(()),
+        }
     }
-}
 
-// A line more: it waits behind the others, which are written first where there is no room. Returns how many bytes wait.
-fn print_front<W: Write>(
-    paper: &mut Paper<W>,
-    out: &mut [u8],
-    waiting: usize,
-    line: &[u8],
-    size: usize,
-) -> usize {
-    if line.len() < size {
-        return waiting;
+    // Writes the bytes that wait.
+    pub fn write_out(&mut self)
+        ensures stopped { IsErr self.old.said → self.new ≡ self.old }
+        ensures written { IsOk self.new.said → Appends (W.contents self.old.to) (W.contents self.new.to) self.old.waiting.items }
+        ensures kept { self.new.waiting.items ≡ self.old.waiting.items }
+    {
+        if self.said.is_ok() {
+            self.said = self.to.write_all(self.waiting.as_slice());
+        }
     }
-    if lines::append(out, waiting, &line[..size]) {
-        return std::num::wrapping_add_usize(waiting, size);
+
+    // A line more: it waits behind the others, which are written first where there is no room.
+    #[tactic(auto, using(crate::proofs::Prints::waits, crate::proofs::Prints::follows))]
+    fn print(&mut self, line: &[u8])
+        requires { length line.now ≤ LINE }
+        ensures { Prints W.contents self.old self.new line.now }
+    {
+        if self.waiting.try_extend_from_slice(line).is_err() {
+            self.write_out();
+            self.waiting.clear();
+            let _ = self.waiting.try_extend_from_slice(line);
+        }
     }
-    write_out(paper, out, waiting);
-    if lines::append(out, 0, &line[..size]) {
-        return size;
+
+    #[tactic(auto, using(crate::proofs::Short::short))]
+    pub fn refused(&mut self, number: u64, refusal: u64)
+        ensures { Prints W.contents self.old self.new (refused_line number refusal) }
+    {
+        let mut line = [0; LINE];
+        let size = printed::refused_line(&mut line, number, refusal);
+        self.print(&line[..size]);
     }
-    0
-}
 
-// The array as a slice: so no caller has to show its length.
-fn print<W: Write>(
-    paper: &mut Paper<W>,
-    out: &mut [u8],
-    waiting: usize,
-    line: &[u8; 128],
-    size: usize,
-) -> usize {
-    print_front(paper, out, waiting, line, size)
-}
+    #[tactic(auto, using(crate::proofs::Short::short))]
+    pub fn already(&mut self, number: u64)
+        ensures { Prints W.contents self.old self.new (already_line number) }
+    {
+        let mut line = [0; LINE];
+        let size = printed::already_line(&mut line, number);
+        self.print(&line[..size]);
+    }
 
-pub fn refused<W: Write>(
-    paper: &mut Paper<W>,
-    out: &mut [u8],
-    waiting: usize,
-    number: u64,
-    refusal: u64,
-) -> usize {
-    let mut line = [0u8; 128];
-    let size = printed::refused_line(&mut line, number, refusal);
-    print(paper, out, waiting, &line, size)
-}
-
-pub fn already<W: Write>(
-    paper: &mut Paper<W>,
-    out: &mut [u8],
-    waiting: usize,
-    number: u64,
-) -> usize {
-    let mut line = [0u8; 128];
-    let size = printed::already_line(&mut line, number);
-    print(paper, out, waiting, &line, size)
-}
-
-// A key of the table is legal, so its line is never refused.
-pub fn frame<W: Write>(
-    paper: &mut Paper<W>,
-    out: &mut [u8],
-    waiting: usize,
-    place: u64,
-    key: u64,
-) -> usize {
-    let mut line = [0u8; 128];
-    let said = printed::frame_line(&mut line, place, key);
-    match said {
-        FrameLine::Bytes(size) => print(paper, out, waiting, &line, size),
-        FrameLine::Refused(_) => waiting,
+    // A key of a sound table is legal, so its line is never refused.
+    #[tactic(auto, using(crate::proofs::Short::short))]
+    pub fn frame(&mut self, place: u64, key: u64)
+        ensures printed { legal_of key ≡ true → Prints W.contents self.old self.new (frame_line place key) }
+        ensures no_key { legal_of key ≡ false → self.new ≡ self.old }
+    {
+        let mut line = [0; LINE];
+        if let Ok(size) = printed::frame_line(&mut line, place, key) {
+            self.print(&line[..size]);
+        }
     }
 }

@@ -10,7 +10,7 @@ use native.Mathlib.Nat.{zero-div, zero-mod}
 use native.Mathlib.Decide.{dec_lt}
 use lib.ListN.{length, replicate}
 use borrow.Author.Tests.{not-true, eqb-false}
-use Rattle.moment.specs.Said.{Said, gives, refuses}
+use Rattle.refusal.specs.Said.{Said, gives, refuses}
 use Rattle.moment.proofs.Tests.{tests}
 use Rattle.table.specs.Pair.{as_data, state_f, link_f, lock_f, busy_f, word_at, key_of, set_key, field_of, set_field, set_state}
 use Rattle.table.specs.Rules.{pair_fine, all_ones, fewest_words, most_words, size_fine, table_fine, fresh_says, fresh_words}

@@ -75,12 +75,8 @@ four_more ws a b e h f l s =
     (one_more ws (a + 2) (a + 4) (omega arith) (omega arith) (f (a + 2)) (omega (arith, p, q, and_le_r w x))
     (one_more ws a (a + 2) (omega arith) (omega arith) (f a) (omega (arith, p, q, and_le_l w x)) s)))
 
-pub eight_more : (ws : List ℕ) (a : ℕ) → a + 14 < length ws → ((i : ℕ) → get_or ws i 0 < 2 ^ 64) → taken ≤ bit_and (and_four ws a) (and_four ws (a + 8))
-    → Sought ws a → Sought ws (a + 16)
-eight_more ws a h f l s =
-    four_more ws (a + 8) (a + 16) (omega arith) (omega arith) f (omega (arith, and_le_r (and_four ws a) (and_four ws (a + 8))))
+pub eight_more : (ws : List ℕ) (a b : ℕ) → b ≡ a + 16 → a + 14 < length ws → ((i : ℕ) → get_or ws i 0 < 2 ^ 64)
+    → taken ≤ bit_and (and_four ws a) (and_four ws (a + 8)) → Sought ws a → Sought ws b
+eight_more ws a b e h f l s =
+    four_more ws (a + 8) b (omega arith) (omega arith) f (omega (arith, and_le_r (and_four ws a) (and_four ws (a + 8))))
     (four_more ws a (a + 8) (omega arith) (omega arith) f (omega (arith, and_le_l (and_four ws a) (and_four ws (a + 8)))) s)
-
--- eight slots looked at one by one, and none of them free
-pub none_of_eight : (ws : List ℕ) (a f : ℕ) → (f ≤ a + 16) × Sought ws f → a + 16 ≤ f → Sought ws (a + 16)
-none_of_eight ws a f s l = let e : f ≡ a + 16 = omega (arith, s.0) in rw e at s.1

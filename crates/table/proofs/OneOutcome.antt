@@ -1,15 +1,18 @@
 -- For every input each promise leaves one answer, and one content of the words: any two that it allows are equal.
 -- Assumes nothing.
-use mathlib.Core.Path.{◌≡◌, sym, ◌∙◌}
+use mathlib.Core.Path.{◌≡◌, refl, sym, ap, ◌∙◌}
 use mathlib.Core.Bool.{Bool}
 use mathlib.Core.List.{List}
-use Prim.Native.Nat.{ℕ}
+use Prim.Native.Nat.{ℕ, ◌<◌}
+use native.Mathlib.Omega.{arith}
+use Rattle.std.specs.Prelude.{Option, None, Some, MatchOption, Result}
 use Rattle.table.specs.Free.{lowest_free}
 use Rattle.table.specs.Pair.{slots_of, word_of, key_of, state_of, link_of, lock_of, busy_of, set_key, set_state, set_link, set_lock, set_busy, zero_pair, zeroed}
-use Rattle.table.specs.Rules.{bits_fine, pair_fine, table_fine, reply_says, fresh_says, fresh_words}
+use Rattle.table.specs.Rules.{bits_fine, pair_fine, table_fine, fresh_says, fresh_words}
 use Rattle.table.specs.declared.Which.{Which}
-use Rattle.table.specs.declared.Reply.{Reply}
-use Rattle.table.specs.declared.Reply.TheVariants.{Done, Refusal}
+use Rattle.refusal.specs.Said.{said}
+use Rattle.refusal.specs.declared.Refusal.{Refusal}
+use Rattle.refusal.proofs.SaidLaws.{said_one}
 
 pub slots_one : (ws : List ℕ) (a b : ℕ) → a ≡ slots_of ws → b ≡ slots_of ws → a ≡ b
 slots_one ws a b p q = p ∙ sym q
@@ -22,6 +25,14 @@ fields_one ws i a b p q = p ∙ sym q
 
 pub lowest_free_one : (ws : List ℕ) (a b : ℕ) → a ≡ lowest_free ws → b ≡ lowest_free ws → a ≡ b
 lowest_free_one ws a b p q = p ∙ sym q
+
+-- of what the search returns: the slot, or none
+pub lowest_free_found_one : (ws : List ℕ) (a b : Option ℕ) → MatchOption a (lowest_free ws ≡ 0) (λ i. (i ≡ lowest_free ws) × (0 < i))
+    → MatchOption b (lowest_free ws ≡ 0) (λ i. (i ≡ lowest_free ws) × (0 < i)) → a ≡ b
+lowest_free_found_one ws None None p q = refl
+lowest_free_found_one ws None (Some j) p q = absurd (omega (arith, p, q.0, q.1))
+lowest_free_found_one ws (Some i) None p q = absurd (omega (arith, q, p.0, p.1))
+lowest_free_found_one ws (Some i) (Some j) p q = ap Some (p.0 ∙ sym q.0)
 
 pub state_one : (ws : List ℕ) (i : ℕ) (a b : ℕ) → a ≡ state_of ws i → b ≡ state_of ws i → a ≡ b
 state_one ws i a b p q = p ∙ sym q
@@ -65,14 +76,7 @@ pair_fine_one ws i a b p q = p ∙ sym q
 pub table_fine_one : (ws : List ℕ) (a b : Bool) → a ≡ table_fine ws → b ≡ table_fine ws → a ≡ b
 table_fine_one ws a b p q = p ∙ sym q
 
--- two answers that say the same are the same
-pub reply_same : (a b : Reply) → reply_says a ≡ reply_says b → a ≡ b
-reply_same Done Done e = cc
-reply_same Done (Refusal n) e = cc
-reply_same (Refusal m) Done e = cc
-reply_same (Refusal m) (Refusal n) e = cc
-
 -- the answers a, b with the words x, y
-pub fresh_one : (ws : List ℕ) (a b : Reply) (x y : List ℕ) → (reply_says a ≡ fresh_says ws) × (x ≡ fresh_words ws)
-    → (reply_says b ≡ fresh_says ws) × (y ≡ fresh_words ws) → (a ≡ b) × (x ≡ y)
-fresh_one ws a b x y p q = (reply_same a b (p.0 ∙ sym q.0), p.1 ∙ sym q.1)
+pub fresh_one : (ws : List ℕ) (a b : Result (Unit {0}) Refusal) (x y : List ℕ) → (said a ≡ fresh_says ws) × (x ≡ fresh_words ws)
+    → (said b ≡ fresh_says ws) × (y ≡ fresh_words ws) → (a ≡ b) × (x ≡ y)
+fresh_one ws a b x y p q = (said_one a b (p.0 ∙ sym q.0), p.1 ∙ sym q.1)

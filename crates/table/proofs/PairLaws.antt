@@ -1,18 +1,17 @@
 -- Laws of the accessors and updates, each said once over the number of the field or the word.
 -- Assumes nothing.
-use mathlib.Core.Path.{◌≡◌, refl, sym, ap, ap₂, ◌∙◌}
+use mathlib.Core.Path.{◌≡◌, refl, sym, ap, ap₂}
 use mathlib.Core.Bool.{Bool, true, false}
 use mathlib.Core.List.{List, [], ◌∷◌}
 use mathlib.Core.Logic.{◌≢◌}
 use Prim.Native.Nat.{ℕ, suc, ◌+◌, ◌-◌, ◌*◌, ◌/◌, ◌%◌, ◌^◌, ◌≤◌, ◌<◌}
 use native.Mathlib.Omega.{arith}
 use native.Mathlib.Decide.{dec_lt, ℕ_discrete}
-use native.Mathlib.Numerals.{add-one}
 use lib.Dec.{leb}
-use lib.ListN.{length, set, take, replicate, replicate-append-replicate, length-set, get_or-eq_default}
-use lib.Seq.{take-suc-set, get_or-set_same, get_or-set_other, set_out, set-set, set-get_or}
+use lib.ListN.{length, length-set, get_or-eq_default}
+use lib.Seq.{get_or-set_same, get_or-set_other, set_out, set-set, set-get_or}
 use borrow.Author.Tests.{lt-leb, le-leb, leb-true, leb-false}
-use Rattle.layout.specs.Word.{get, put}
+use Rattle.layout.specs.Word.{put}
 use Rattle.layout.specs.Layout.{pos, wid, fld, fld_set, dec}
 use Rattle.layout.proofs.WordLaws.{get_lt, one_shifted, get_shifts, put_shifts}
 use Rattle.layout.proofs.LayoutLaws.{fld_same, fld_other, fld_set_lt, inside, same_fields}
@@ -187,10 +186,6 @@ lock_wide_lem (Edge false) = refl
 pub reach : (f p w : ℕ) → p ≡ pos layout f → w ≡ wid layout f → 0 < w → w < 64 → (p < 64) × (w < 64) × (p + w ≤ 64)
 reach f p w e d l h = omega (arith, inside layout f)
 
-pub field_at : (f p w : ℕ) (ws : List ℕ) (i : ℕ) → p ≡ pos layout f → w ≡ wid layout f → get p w (word_of ws i 1) ≡ field_of f ws i
-unfolding field_of
-field_at f p w ws i e d = rw (e, d)
-
 pub store_at : (f p w : ℕ) (ws : List ℕ) (i v : ℕ) → p ≡ pos layout f → w ≡ wid layout f → set_bits ws i p w v ≡ set_field f ws i v
 unfolding set_bits set_field
 store_at f p w ws i v e d = rw (e, d)
@@ -213,7 +208,3 @@ bits_fit ws i p w v h = rw (lt-leb (2 ^ w) v h)
 pub bits_big : (ws : List ℕ) (i p w v : ℕ) → 2 ^ w ≤ v → ws ≡ set_bits ws i p w v
 unfolding set_bits
 bits_big ws i p w v h = rw (le-leb (2 ^ w) v h)
-
--- one more word is zero
-pub zero_more : (ws : List ℕ) (i : ℕ) → i < length ws → take i ws ≡ replicate i 0 → take (i + 1) (set ws i 0) ≡ replicate (i + 1) 0
-zero_more ws i h e = rw (add-one, take-suc-set ws i 0 h, e) (replicate-append-replicate i 1 0 ∙ ap (λ (n : ℕ). replicate n 0) (add-one i))

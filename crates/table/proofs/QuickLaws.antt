@@ -6,11 +6,11 @@ use mathlib.Core.List.{List}
 use Prim.Native.Nat.{ℕ, ◌+◌, ◌-◌, ◌*◌, ◌/◌, ◌%◌, ◌^◌, ◌≤◌, ◌<◌}
 use native.Mathlib.Omega.{arith}
 use native.Mathlib.Nat.{div-lt_iff_lt-mul}
-use lib.Dec.{lit<, leb, eqb}
+use lib.Dec.{lit<, eqb}
 use lib.ListN.{length}
 use lib.Pow.{split, mod-pow-add}
 use lib.Bits.{bit_and}
-use borrow.Author.Tests.{lt-ltb, le-leb, lt-leb, ne_eqb}
+use borrow.Author.Tests.{lt-ltb, le-leb, ne_eqb}
 use Rattle.layout.specs.Word.{get}
 use Rattle.layout.specs.Layout.{pos, wid, fld}
 use Rattle.layout.proofs.WordLaws.{get_lt}
@@ -141,23 +141,12 @@ root_fine_lem : (ws : List ℕ) → root_words (key_of ws 0) (word_of ws 0 1) (s
 unfolding root_words root_fine bits_fine word_fine field_of
 root_fine_lem ws e = e
 
--- what follows from the busy count's bounds
-table_fine_lem : (ws : List ℕ) (b : ℕ) (q : ℕ → Bool) → ((n : ℕ) → busy_from b n ≡ true → q n ≡ true) → size_fine (length ws) ≡ true
-    → quick (key_of ws 0) (word_of ws 0 1) (slots_of ws) b ≡ true → (table_fine ws && q (busy_of ws)) ≡ true
+pub table_fine_lem : (ws : List ℕ) (b : ℕ) → size_fine (length ws) ≡ true → quick (key_of ws 0) (word_of ws 0 1) (slots_of ws) b ≡ true
+    → (table_fine ws && busy_from b (busy_of ws)) ≡ true
 unfolding table_fine field_of
-table_fine_lem ws b q f z e =
+table_fine_lem ws b z e =
     let m = (and-eq-true_iff (root_words (key_of ws 0) (word_of ws 0 1) (slots_of ws)) (busy_from b (fld layout busy_f (word_of ws 0 1)))).0 e in
-    rw (z, root_fine_lem ws m.0, f _ m.1)
-
-pub table_busy : (ws : List ℕ) → size_fine (length ws) ≡ true → quick (key_of ws 0) (word_of ws 0 1) (slots_of ws) 1 ≡ true
-    → (table_fine ws && not (eqb (busy_of ws) 0)) ≡ true
-unfolding busy_from
-table_busy ws = table_fine_lem ws 1 (λ n. not (eqb n 0)) (λ n e. let r = simp tests at e in rw (ne_eqb n 0 (λ z. absurd (omega arith))))
-
-pub table_open_lem : (ws : List ℕ) → size_fine (length ws) ≡ true → quick (key_of ws 0) (word_of ws 0 1) (slots_of ws) 0 ≡ true
-    → (table_fine ws && not (leb 16 (busy_of ws))) ≡ true
-unfolding busy_from
-table_open_lem ws = table_fine_lem ws 0 (λ n. not (leb 16 n)) (λ n e. let r = simp tests at e in rw (lt-leb 16 n (omega arith)))
+    rw (z, root_fine_lem ws m.0, m.1)
 
 bits_fine_lem : (ws : List ℕ) (i : ℕ) → word_fine (word_of ws i 1) (slots_of ws) (eqb i 0) ≡ true → bits_fine ws i ≡ true
 unfolding word_fine bits_fine field_of

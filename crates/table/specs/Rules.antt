@@ -2,11 +2,9 @@
 -- Assumes nothing.
 use Rattle.std.specs.Prelude.{Bool, true, false, cond, not, ◌&&◌, ◌||◌, List, ℕ, ◌+◌, ◌*◌, ◌%◌, leb, ltb, eqb, length, replicate}
 use Rattle.layout.specs.Layout.{fld}
-use Rattle.moment.specs.Said.{Said, gives, refuses}
+use Rattle.refusal.specs.Said.{Said, gives, refuses}
 use Rattle.table.specs.Pair.{layout, most_slots, free, as_data, slots_of, field_of, state_f, link_f, lock_f, zeros_f, busy_f, key_of, state_of, link_of, lock_of, busy_of, set_key, set_state}
 use Rattle.table.specs.declared.Which.TheVariants.{State, Edge}
-use Rattle.table.specs.declared.Reply.{Reply}
-use Rattle.table.specs.declared.Reply.TheVariants.{Done, Refusal}
 
 -- a lock is 0 when free, 1 when written, else twice its readers, at most 32
 unfoldable pub lock_fine : ℕ → Bool
@@ -68,11 +66,6 @@ size_fine n = eqb (n % 2) 0 && leb fewest_words n && leb n most_words
 -- no refusal 1
 unfoldable pub table_fine : List ℕ → Bool
 table_fine ws = size_fine (length ws) && root_fine ws
-
--- what the answer of start, withdraw, fresh and sweep says: done, or a refusal by its number
-abbrev pub reply_says : Reply → Said (Unit {0})
-reply_says Done = gives tt
-reply_says (Refusal n) = refuses n
 
 -- a fresh table has this root with the rest zero, whatever it held; or 1, and nothing changes
 unfoldable pub fresh_says : List ℕ → Said (Unit {0})

@@ -1,68 +1,75 @@
 // The search for a free slot. It looks at states alone: a slot is free where its second word is below TAKEN.
 // Eight slots are passed at once where the AND of their second words, which is at most each of them, is not below it.
-ghost use Rattle.std.specs.Prelude.{◌≡◌, ◌+◌, ◌<◌, ◌≤◌, length};
+ghost use Rattle.std.specs.Prelude.{◌≡◌, ◌+◌, ◌-◌, ◌*◌, ◌<◌, ◌≤◌, length, MatchOption};
 ghost use Rattle.table.specs.Free.{lowest_free, and_four, Sought};
 
-use crate::widths::TAKEN;
+use crate::widths::{TAKEN, WORDS};
+
+// How many words a slot has, and eight slots.
+const SLOT: usize = WORDS as usize;
+
+const EIGHT: usize = 8 * SLOT;
 
 // The second words of four slots ANDed, the first of them at `at`.
+#[tactic(auto, unfolding(crate::specs::Free::and_four))]
 fn and_four(t: &[u64], at: usize) -> u64
     requires { at + 6 < length t.now }
     ensures { result ≡ and_four t.now at }
 {
-    t[at] & t[at + 2] & t[at + 4] & t[at + 6]
+    t[at] & t[at + SLOT] & t[at + 2 * SLOT] & t[at + 3 * SLOT]
 }
 
-// The place of the first free second word of the eight slots from `from` on; past them where none is free.
-fn free_of_eight(t: &[u64], from: usize) -> usize
-    requires { (from + 14 < length t.now) × Sought t.now from }
-    ensures { (result ≤ from + 16) × Sought t.now result }
+// The first free slot of the eight from `first` on, if there is one. This and the two functions below stand whole in the step that inserts: a call
+// there costs more than a table of a few slots.
+#[inline(always)]
+#[tactic(auto, using(crate::proofs::FreeLaws::one_more, crate::proofs::FreeLaws::ends_here))]
+fn free_of_eight(t: &[u64], first: usize) -> Option<u64>
+    requires { (0 < first) × (2 * first + 15 < length t.now) × Sought t.now (2 * first + 1) }
+    ensures { MatchOption result (Sought t.now (2 * (first + 8) + 1)) (λ i. (i ≡ lowest_free t.now) × (0 < i)) }
 {
-    let mut i = from;
-    while i < from + 16 {
-        if t[i] < TAKEN {
-            return i;
+    for i in first..first + 8 {
+        if t[SLOT * i + 1] < TAKEN {
+            return Some(i as u64);
         }
-        i += 2;
     }
-    i
+    None
 }
 
-// Where the search goes on slot by slot: no slot before the one of this second word is free. A block whose AND is below
-// TAKEN may have no free slot: data and routing slots have no bit of the state in common.
-fn past_full(t: &[u64]) -> usize
-    ensures { Sought t.now result }
+// The first free slot of so many eights, from slot 1 on, if there is one. Eight whose AND is below TAKEN may have no free slot: data and routing
+// slots have no bit of the state in common.
+#[inline(always)]
+#[tactic(auto, using(crate::proofs::FreeLaws::begins))]
+fn free_of_eights(t: &[u64], eights: usize) -> Option<u64>
+    requires { 16 * eights ≤ length t.now - 2 }
+    ensures { MatchOption result (Sought t.now (2 * (8 * eights + 1) + 1)) (λ i. (i ≡ lowest_free t.now) × (0 < i)) }
 {
-    let n = t.len();
-    if n < 18 {
-        return 3;
-    }
-    // behind this place fewer than eight second words are left
-    let last = n - 14;
-    let mut at: usize = 3;
-    while at < last {
-        if (and_four(t, at) & and_four(t, at + 8)) < TAKEN {
-            let f = free_of_eight(t, at);
-            if f < at + 16 {
-                return f;
+    for e in 0..eights {
+        let first = 8 * e + 1;
+        let at = SLOT * first + 1;
+        if (and_four(t, at) & and_four(t, at + EIGHT / 2)) < TAKEN {
+            if let Some(free) = free_of_eight(t, first) {
+                return Some(free);
             }
         }
-        at += 16;
     }
-    at
+    None
 }
 
-// The lowest free slot from 1 on; 0: none.
-pub fn lowest_free(t: &[u64]) -> u64
-    ensures { result ≡ lowest_free t.now }
+// The lowest free slot from 1 on, if there is one. Behind the last eight the slots are searched one by one.
+#[inline(always)]
+#[tactic(auto, using(crate::proofs::FreeLaws::one_more, crate::proofs::FreeLaws::ends_here, crate::proofs::FreeLaws::ends_at_none))]
+pub fn lowest_free(t: &[u64]) -> Option<u64>
+    ensures { MatchOption result (lowest_free t.now ≡ 0) (λ i. (i ≡ lowest_free t.now) × (0 < i)) }
 {
     let n = t.len();
-    let mut at = past_full(t);
-    while at < n {
-        if t[at] < TAKEN {
-            return at as u64 / 2;
-        }
-        at += 2;
+    let eights = n.saturating_sub(SLOT) / EIGHT;
+    if let Some(slot) = free_of_eights(t, eights) {
+        return Some(slot);
     }
-    0
+    for slot in 8 * eights + 1..n / SLOT {
+        if t[SLOT * slot + 1] < TAKEN {
+            return Some(slot as u64);
+        }
+    }
+    None
 }

@@ -11,9 +11,10 @@ use crate::widths::{
 };
 
 // Bit x is set where a lock may be x: 0, 1, and the even numbers to 32.
-const FINE: u64 = 5726623063;
+const FINE: u64 = 0x1_5555_5557;
 
 // The three locks. Nearly always none is held: one test of their bits.
+#[tactic(auto, using(crate::proofs::RuleLaws::no_locks, crate::proofs::RuleLaws::locks_by))]
 fn locks_fine(x: u64) -> bool
     ensures { result ≡ locks_fine x }
 {
@@ -27,6 +28,7 @@ fn locks_fine(x: u64) -> bool
 }
 
 // The second word of a slot, the root or another, in a table of n slots. Nearly always all below the links is zero.
+#[tactic(auto, using(crate::proofs::RuleLaws::no_rest), unfolding(crate::specs::Rules::word_fine))]
 pub fn word_fine(x: u64, n: u64, root: bool) -> bool
     ensures { result ≡ word_fine x n root }
 {
@@ -41,6 +43,7 @@ pub fn word_fine(x: u64, n: u64, root: bool) -> bool
 
 // The root's words where at least that many workers are busy, and at most 15 more. Nearly always no lock is held: two
 // compares and one mask.
+#[tactic(auto, using(crate::proofs::QuickLaws::root_quick_lem, crate::proofs::QuickLaws::root_locked))]
 pub fn root_quick(key: u64, x: u64, n: u64, least: u64) -> bool
     requires { (n ≤ most_slots) × (least ≤ 1) }
     ensures { result ≡ true → (root_words key x n && busy_from least (fld layout busy_f x)) ≡ true }
@@ -64,6 +67,7 @@ pub fn root_quick(key: u64, x: u64, n: u64, least: u64) -> bool
 }
 
 // A pair's word of fields.
+#[tactic(auto, using(crate::proofs::QuickLaws::pair_quick_lem, crate::proofs::QuickLaws::pair_locked))]
 pub fn pair_quick(x: u64, n: u64) -> bool
     ensures { result ≡ true → (not (eqb (fld layout state_f x) free) && word_fine x n false) ≡ true }
 {
@@ -82,6 +86,7 @@ pub fn pair_quick(x: u64, n: u64) -> bool
     (x % RIGHT_LOCK == 0) & locks_fine(x)
 }
 
+#[tactic(auto, unfolding(crate::specs::Rules::size_fine))]
 pub fn size_fine(n: u64) -> bool
     ensures { result ≡ size_fine n }
 {

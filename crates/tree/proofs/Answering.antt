@@ -1,32 +1,26 @@
 -- The answers, as the code comes to them: one law for each way out of a function.
 -- Assumes nothing.
 use mathlib.Core.Path.{◌≡◌, refl, sym, ap, ◌∙◌}
-use mathlib.Core.Bool.{Bool, true, false, cond, not, ◌&&◌, ◌||◌}
-use mathlib.Core.List.{List, [], ◌++◌}
+use mathlib.Core.Bool.{Bool, true, false, cond, ◌&&◌}
+use mathlib.Core.List.{List, ◌++◌}
 use Prim.Native.Nat.{ℕ, suc, ◌+◌, ◌-◌, ◌≤◌, ◌<◌}
 use native.Mathlib.Omega.{arith}
 use native.Mathlib.Nat.{zero-add}
 use native.Mathlib.Decide.{ℕ_discrete}
 use lib.Dec.{ltb, eqb}
 use lib.ListN.{length, take, drop, length-append}
-use lib.Seq.{take-append_seam}
-use borrow.Author.Tests.{ltb-false, lt-ltb, le-ltb, eq-eqb, ne_eqb}
+use lib.Seq.{take-append_seam, length-take-le}
+use borrow.Author.Tests.{eqb-false, ltb-false, lt-ltb, le-ltb, eq-eqb, ne_eqb}
 use Rattle.layout.specs.Filling.{Put}
-use Rattle.moment.specs.Said.{Said, gives, refuses}
-use Rattle.table.specs.Pair.{free, as_data, deleted, slots_of, key_of, state_of, link_of, lock_of, busy_of}
+use Rattle.refusal.specs.Said.{Said, gives, refuses, number}
+use Rattle.refusal.specs.declared.Refusal.{Refusal}
+use Rattle.refusal.proofs.SaidLaws.{number-eqb_zero}
+use Rattle.table.specs.Pair.{as_data, slots_of, key_of, link_of}
 use Rattle.table.specs.Rules.{table_fine}
-use Rattle.table.specs.declared.Which.TheVariants.{State, Edge}
-use Rattle.tree.specs.Judge.{every, pair_sound, tree_sound, want, live, inorder, reached_of, live_slots, sound_of, unlocked, keys_at}
-use Rattle.tree.specs.Places.{refusal_of, tree_room, kept}
-use Rattle.tree.specs.Answers.{keys_of, fits, list_says, list_holds, list_front, list_number, sweepable, sweep_says, swept, swept_if, sweep_words}
+use Rattle.tree.specs.Judge.{every, pair_sound, tree_sound, want, live, inorder, reached_of, live_slots, sound_of, keys_at}
+use Rattle.tree.specs.Places.{refusal_of, tree_room}
+use Rattle.tree.specs.Answers.{fine_then, sound_then, keys_of, fits, list_says, list_holds, list_front}
 use Rattle.tree.proofs.Rooms.{put_all}
-
--- a slot that is kept, by what is read of it
-pub kept_test : (ws : List ℕ) (i s l ls r rs a b c : ℕ) → s ≡ state_of ws i → l ≡ link_of ws i true → ls ≡ state_of ws l → r ≡ link_of ws i false → rs ≡ state_of ws r
-    → a ≡ lock_of ws i State → b ≡ lock_of ws i (Edge true) → c ≡ lock_of ws i (Edge false)
-    → (eqb a 0 && eqb b 0 && eqb c 0 && (eqb s free || eqb s deleted || (not (eqb ls deleted) && not (eqb rs deleted)))) ≡ kept ws i
-unfolding kept unlocked
-kept_test ws i s l ls r rs a b c es el els er ers ea eb ec = rw (es, els, ers, el, er, ea, eb, ec)
 
 -- sound: as many places as the live slots are taken, and one is left
 one_left : (p t : Bool) (l m : ℕ) → eqb (cond t (cond p (suc m) 0 - l) 0) 1 ≡ (p && t && eqb l m)
@@ -46,6 +40,25 @@ sound_room ws room n l k e en el ek =
     rw (e, en, el, ek)
     (one_left (every (pair_sound ws) (slots_of ws)) (tree_sound ws (slots_of ws) (link_of ws 0 true) 0 (key_of ws 0))
     (length (inorder ws live (slots_of ws) (link_of ws 0 true))) (length (live_slots ws (slots_of ws))))
+
+-- what the judgement of a table tells: it is sound, or each call that asks for a sound one is refused so
+module _ (ws : List ℕ) where
+  pub judged_sound : ◌≡◌ {A = Said (Unit {0})} (gives tt) (fine_then ws (sound_then ws (gives tt))) → (table_fine ws ≡ true) × (sound_of ws ≡ true)
+  judged_sound e = go (table_fine ws) (sound_of ws) e
+    where
+      go : (a b : Bool) → ◌≡◌ {A = Said (Unit {0})} (gives tt) (cond a (cond b (gives tt) (refuses 6)) (refuses 1)) → (a ≡ true) × (b ≡ true)
+      go true true e = (refl, refl)
+      go true false e = cc
+      go false b e = cc
+
+  pub judged_not : {A : Type 0} (x : Said A) (n : ℕ) → ◌≡◌ {A = Said (Unit {0})} (refuses n) (fine_then ws (sound_then ws (gives tt)))
+      → refuses n ≡ fine_then ws (sound_then ws x)
+  judged_not {A} x n e = go (table_fine ws) (sound_of ws) e
+    where
+      go : (a b : Bool) → ◌≡◌ {A = Said (Unit {0})} (refuses n) (cond a (cond b (gives tt) (refuses 6)) (refuses 1)) → ◌≡◌ {A = Said A} (refuses n) (cond a (cond b x (refuses 6)) (refuses 1))
+      go true true e = cc
+      go true false e = let q : n ≡ 6 = cc in ap refuses q
+      go false b e = let q : n ≡ 1 = cc in ap refuses q
 
 -- a refusal by its number, which is never 0
 pub is_refused : {A : Type 0} (a : Said A) (n : ℕ) → n ≡ refusal_of a → (n ≡ 0 → ⊥) → refuses n ≡ a
@@ -74,10 +87,11 @@ module _ (ws : List ℕ) (low high room : ℕ) where
       go true false c q h = absurd (omega arith)
       go false b c q h = absurd (omega arith)
 
-pub list_numbered : (ws : List ℕ) (low high : ℕ) (o : List ℕ) (n : ℕ) → n ≡ refusal_of (list_says ws low high (length o)) → (n ≡ 0 → ⊥)
-    → (refuses n ≡ list_says ws low high (length o)) × (o ≡ list_holds ws low high o)
+pub list_numbered : (ws : List ℕ) (low high : ℕ) (o : List ℕ) (e : Refusal) → number e ≡ refusal_of (list_says ws low high (length o))
+    → (refuses (number e) ≡ list_says ws low high (length o)) × (o ≡ list_holds ws low high o)
 unfolding list_holds
-list_numbered ws low high o n e z = let r = is_refused (list_says ws low high (length o)) n e z in (r, rw (← r))
+list_numbered ws low high o e h =
+    let r = is_refused (list_says ws low high (length o)) (number e) h (eqb-false (number e) 0 (number-eqb_zero e)) in (r, rw (← r))
 
 module _ (ws : List ℕ) (n l : ℕ) (en : n ≡ slots_of ws) (el : l ≡ link_of ws 0 true) where
   module _ (low high : ℕ) (o : List ℕ) (h : refusal_of (list_says ws low high (length o)) ≡ 0) where
@@ -91,25 +105,6 @@ module _ (ws : List ℕ) (n l : ℕ) (en : n ≡ slots_of ws) (el : l ≡ link_o
     list_done m o' p =
         let t = list_tells ws low high (length o) h in
         rw t.1 (put_all (keys_of ws low high) o o' m t.0 (rw (← en, ← el) p))
-
--- the sweep: a refusal, or done
-module _ (ws : List ℕ) where
-  pub sweep_numbered : (n : ℕ) → n ≡ refusal_of (sweep_says ws) → (n ≡ 0 → ⊥) → (refuses n ≡ sweep_says ws) × (ws ≡ sweep_words ws)
-  unfolding sweep_words
-  sweep_numbered n e z = let r = is_refused (sweep_says ws) n e z in (r, rw (← r))
-
-  pub sweep_zero : (us : List ℕ) → refusal_of (sweep_says ws) ≡ 0 → us ≡ swept ws (slots_of ws) → (gives tt ≡ sweep_says ws) × (us ≡ sweep_words ws)
-  unfolding sweep_words sweep_says
-  sweep_zero us e q = go (table_fine ws) (eqb (busy_of ws) 0) (sweepable ws) e
-    where
-      said : Bool → Bool → Bool → Said (Unit {0})
-      said a b c = cond a (cond b (cond c (gives tt) (refuses 6)) (refuses 8)) (refuses 1)
-
-      go : (a b c : Bool) → refusal_of (said a b c) ≡ 0 → (said true true true ≡ said a b c) × (us ≡ swept_if (said a b c) ws)
-      go true true true h = (refl, q)
-      go true true false h = absurd (omega arith)
-      go true false c h = absurd (omega arith)
-      go false b c h = absurd (omega arith)
 
 -- the front that is handed back
 fits_tells : (room n : ℕ) (ks : List ℕ) (t : Bool) → cond t (refuses 11) (gives (length ks)) ≡ gives n → n ≡ length ks
@@ -126,16 +121,19 @@ pub list_count : (ws : List ℕ) (low high room n : ℕ) → list_says ws low hi
 unfolding list_says
 list_count ws low high room n e = gives_count (table_fine ws) (sound_of ws) room n (keys_of ws low high) e
 
-module _ (ws : List ℕ) (low high : ℕ) (o : List ℕ) where
-  pub front_refused : (n : ℕ) → list_says ws low high (length o) ≡ refuses n → ([] ≡ list_front ws low high o) × (n ≡ list_number ws low high o)
-  unfolding list_front list_number
-  front_refused n e = rw e (refl, refl)
+module _ (ws : List ℕ) (low high : ℕ) (o : List ℕ) (n : ℕ) (o' : List ℕ) (e : gives n ≡ list_says ws low high (length o)) (h : o' ≡ list_holds ws low high o) where
+  keys_front : o' ≡ keys_of ws low high ++ drop n o
+  unfolding list_holds
+  keys_front = rw (← e) at h
 
-  pub front_counted : (n : ℕ) (o' : List ℕ) → list_says ws low high (length o) ≡ gives n → o' ≡ list_holds ws low high o
-      → (take n o' ≡ list_front ws low high o) × (0 ≡ list_number ws low high o) × (n ≤ length o')
-  unfolding list_front list_number list_holds
-  front_counted n o' e h =
+  pub front_counted : take n o' ≡ list_front ws low high o
+  unfolding list_front
+  front_counted =
       let ks = keys_of ws low high in
-      let c = list_count ws low high (length o) n e in
-      let w : o' ≡ ks ++ drop n o = rw e at h in
-      rw e (rw (w, c) (take-append_seam ks (drop (length ks) o)), refl, rw w (simp length-append (omega arith)))
+      let c = list_count ws low high (length o) n (sym e) in
+      rw (← e) (rw (keys_front, c) (take-append_seam ks (drop (length ks) o)))
+
+  pub front_length : n ≡ length (take n o')
+  front_length =
+      let c = list_count ws low high (length o) n (sym e) in
+      sym (length-take-le n o' (rw keys_front (simp length-append (omega arith))))

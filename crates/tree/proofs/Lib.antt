@@ -24,3 +24,5 @@ pub mod Refusals
 pub mod Kept
 pub mod SoundPaths
 pub mod Fresh
+-- what the functions name
+pub mod Ways

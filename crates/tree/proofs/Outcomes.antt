@@ -1,7 +1,7 @@
 -- What an answer tells, for each call: which tables give it, that a refusal changes nothing, and that the promise leaves
 -- one outcome (two answers that say the same are the same).
 -- Assumes nothing.
-use mathlib.Core.Path.{◌≡◌, refl, sym, ◌∙◌}
+use mathlib.Core.Path.{◌≡◌, refl, sym, ap, ◌∙◌}
 use mathlib.Core.Bool.{Bool, true, false, cond}
 use mathlib.Core.List.{List}
 use mathlib.Core.Logic.{◌⊎◌, inl, inr, ⊎_elim}
@@ -9,76 +9,51 @@ use Prim.Native.Nat.{ℕ, ◌≤◌}
 use native.Mathlib.Omega.{arith}
 use lib.Dec.{ltb}
 use lib.ListN.{length}
-use borrow.Author.Tests.{ltb-false}
-use Rattle.moment.specs.Said.{Said, gives, refuses}
-use Rattle.table.specs.Rules.{table_fine, reply_says}
-use Rattle.table.specs.declared.Reply.{Reply}
-use Rattle.table.specs.declared.Reply.TheVariants.{Done, Refusal}
+use borrow.Author.Tests.{eqb-false, ltb-false}
+use Rattle.std.specs.Prelude.{Result, Ok, Err, IfOk}
+use Rattle.refusal.specs.Said.{Said, gives, refuses, number, said, judged}
+use Rattle.refusal.specs.declared.Refusal.{Refusal}
+use Rattle.refusal.proofs.SaidLaws.{said_one, number_one, number-eqb_zero}
+use Rattle.table.specs.Rules.{table_fine}
 use Rattle.tree.specs.Reach.{InSet}
 use Rattle.tree.specs.Sound.{Sound}
 use Rattle.tree.specs.Judge.{sound_of}
-use Rattle.tree.specs.Answers.{sound_then, checked_says, check_says, listed_says, keys_of, fits, list_says, list_holds, list_front, list_number, frame_says, first_says, sweep_says, sweep_words}
-use Rattle.tree.specs.declared.Checked.{Checked}
-use Rattle.tree.specs.declared.Checked.TheVariants as checked
-use Rattle.tree.specs.declared.Listed.{Listed}
-use Rattle.tree.specs.declared.Listed.TheVariants as listed
-use Rattle.tree.specs.declared.FirstFrame.{FirstFrame}
-use Rattle.tree.specs.declared.FirstFrame.TheVariants as frame
+use Rattle.tree.specs.Answers.{sound_then, check_says, keys_of, fits, list_says, list_holds, list_front, list_number, first_says, sweep_says, sweep_words}
 use Rattle.tree.proofs.Judged.{sound_exactly}
 use Rattle.tree.proofs.Lists.{First, head_first, head_13}
 use Rattle.tree.proofs.Answering.{list_count}
 
 -- ONE OUTCOME
 
-pub checked_one : (a b : Checked) → checked_says a ≡ checked_says b → a ≡ b
-checked_one checked.Sound checked.Sound e = cc
-checked_one checked.Sound checked.Unsound e = cc
-checked_one checked.Sound (checked.Refused n) e = cc
-checked_one checked.Unsound checked.Sound e = cc
-checked_one checked.Unsound checked.Unsound e = cc
-checked_one checked.Unsound (checked.Refused n) e = cc
-checked_one (checked.Refused m) checked.Sound e = cc
-checked_one (checked.Refused m) checked.Unsound e = cc
-checked_one (checked.Refused m) (checked.Refused n) e = cc
-
-pub listed_one : (a b : Listed) → listed_says a ≡ listed_says b → a ≡ b
-listed_one (listed.Count m) (listed.Count n) e = cc
-listed_one (listed.Count m) (listed.Refused n) e = cc
-listed_one (listed.Refused m) (listed.Count n) e = cc
-listed_one (listed.Refused m) (listed.Refused n) e = cc
-
-pub frame_one : (a b : FirstFrame) → frame_says a ≡ frame_says b → a ≡ b
-frame_one (frame.Key j) (frame.Key k) e = cc
-frame_one (frame.Key j) (frame.Refused n) e = cc
-frame_one (frame.Refused m) (frame.Key k) e = cc
-frame_one (frame.Refused m) (frame.Refused n) e = cc
-
-pub reply_one : (a b : Reply) → reply_says a ≡ reply_says b → a ≡ b
-reply_one Done Done e = refl
-reply_one Done (Refusal n) e = cc
-reply_one (Refusal m) Done e = cc
-reply_one (Refusal m) (Refusal n) e = cc
-
 -- any two outcomes that a promise allows are equal: the answer, and what is left of table and buffer
-pub check_once : (ws : List ℕ) (a b : Checked) → checked_says a ≡ check_says ws → checked_says b ≡ check_says ws → a ≡ b
-check_once ws a b p q = checked_one a b (p ∙ sym q)
+pub check_once : (ws : List ℕ) (a b : Result Bool Refusal) → said a ≡ check_says ws → said b ≡ check_says ws → a ≡ b
+check_once ws a b p q = said_one a b (p ∙ sym q)
 
-pub list_once : (ws : List ℕ) (low high : ℕ) (o : List ℕ) (a b : Listed) (o₁ o₂ : List ℕ)
-    → (listed_says a ≡ list_says ws low high (length o)) × (o₁ ≡ list_holds ws low high o)
-    → (listed_says b ≡ list_says ws low high (length o)) × (o₂ ≡ list_holds ws low high o) → (a ≡ b) × (o₁ ≡ o₂)
-list_once ws low high o a b o₁ o₂ p q = (listed_one a b (p.0 ∙ sym q.0), p.1 ∙ sym q.1)
+pub list_once : (ws : List ℕ) (low high : ℕ) (o : List ℕ) (a b : Result ℕ Refusal) (o₁ o₂ : List ℕ)
+    → (said a ≡ list_says ws low high (length o)) × (o₁ ≡ list_holds ws low high o)
+    → (said b ≡ list_says ws low high (length o)) × (o₂ ≡ list_holds ws low high o) → (a ≡ b) × (o₁ ≡ o₂)
+list_once ws low high o a b o₁ o₂ p q = (said_one a b (p.0 ∙ sym q.0), p.1 ∙ sym q.1)
 
 pub part_once : (ws : List ℕ) (low high : ℕ) (o r₁ r₂ : List ℕ) (n₁ n₂ : ℕ)
     → (r₁ ≡ list_front ws low high o) × (n₁ ≡ list_number ws low high o)
     → (r₂ ≡ list_front ws low high o) × (n₂ ≡ list_number ws low high o) → (r₁ ≡ r₂) × (n₁ ≡ n₂)
 part_once ws low high o r₁ r₂ n₁ n₂ p q = (p.0 ∙ sym q.0, p.1 ∙ sym q.1)
 
-pub first_once : (ws : List ℕ) (from : ℕ) (a b : FirstFrame) → frame_says a ≡ first_says ws from → frame_says b ≡ first_says ws from → a ≡ b
-first_once ws from a b p q = frame_one a b (p ∙ sym q)
+-- of what `list` returns, with what the handed part holds: the front, or the refusal
+pub handed_once : (ws : List ℕ) (low high : ℕ) (o : List ℕ) (a b : Result (List ℕ) Refusal)
+    → IfOk a (λ r. r ≡ list_front ws low high o) × (judged a ≡ list_number ws low high o)
+    → IfOk b (λ r. r ≡ list_front ws low high o) × (judged b ≡ list_number ws low high o) → a ≡ b
+handed_once ws low high o (Ok r) (Ok t) p q = ap Ok (p.0 ∙ sym q.0)
+handed_once ws low high o (Ok r) (Err e) p q = absurd (eqb-false (number e) 0 (number-eqb_zero e) (q.1 ∙ sym p.1))
+handed_once ws low high o (Err d) (Ok t) p q = absurd (eqb-false (number d) 0 (number-eqb_zero d) (p.1 ∙ sym q.1))
+handed_once ws low high o (Err d) (Err e) p q = ap Err (number_one d e (p.1 ∙ sym q.1))
 
-pub sweep_once : (ws : List ℕ) (a b : Reply) (vs₁ vs₂ : List ℕ) → (reply_says a ≡ sweep_says ws) × (vs₁ ≡ sweep_words ws)
-    → (reply_says b ≡ sweep_says ws) × (vs₂ ≡ sweep_words ws) → (a ≡ b) × (vs₁ ≡ vs₂)
-sweep_once ws a b vs₁ vs₂ p q = (reply_one a b (p.0 ∙ sym q.0), p.1 ∙ sym q.1)
+pub first_once : (ws : List ℕ) (from : ℕ) (a b : Result ℕ Refusal) → said a ≡ first_says ws from → said b ≡ first_says ws from → a ≡ b
+first_once ws from a b p q = said_one a b (p ∙ sym q)
+
+pub sweep_once : (ws : List ℕ) (a b : Result (Unit {0}) Refusal) (vs₁ vs₂ : List ℕ) → (said a ≡ sweep_says ws) × (vs₁ ≡ sweep_words ws)
+    → (said b ≡ sweep_says ws) × (vs₂ ≡ sweep_words ws) → (a ≡ b) × (vs₁ ≡ vs₂)
+sweep_once ws a b vs₁ vs₂ p q = (said_one a b (p.0 ∙ sym q.0), p.1 ∙ sym q.1)
 
 -- WHAT A TEST BEFORE AN ANSWER TELLS: it was passed, or its number is the answer
 

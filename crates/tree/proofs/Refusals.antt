@@ -11,7 +11,7 @@ use native.Mathlib.Omega.{arith}
 use lib.Dec.{ltb, eqb}
 use lib.ListN.{length}
 use borrow.Author.Tests.{ltb-true, eqb-true, eqb-false}
-use Rattle.moment.specs.Said.{Said, gives, refuses}
+use Rattle.refusal.specs.Said.{Said, gives, refuses}
 use Rattle.table.specs.Pair.{slots_of, lock_of, busy_of}
 use Rattle.table.specs.Rules.{all_ones, table_fine}
 use Rattle.table.specs.declared.Which.{Which}

@@ -11,7 +11,7 @@ use native.Mathlib.Decide.{ℕ_discrete}
 use lib.Dec.{eqb}
 use lib.ListN.{length}
 use borrow.Author.Tests.{eqb-true, lt-ltb}
-use Rattle.moment.specs.Said.{Said, gives, refuses}
+use Rattle.refusal.specs.Said.{Said, gives, refuses}
 use Rattle.moment.proofs.Tests.{tests}
 use Rattle.table.specs.Pair.{free, as_data, routing, deleted, slots_of, word_of, key_of, field_of, state_f, link_f, lock_f, busy_f, zeros_f, state_of, link_of, lock_of, busy_of, zero_pair}
 use Rattle.table.specs.Rules.{lock_fine, bits_fine, root_fine, table_fine}

@@ -1,16 +1,10 @@
 -- What check, list, first frame and sweep answer, and what they leave, for every table.
 -- Assumes nothing.
-use Rattle.std.specs.Prelude.{Bool, true, false, cond, ◌&&◌, List, [], ◌∷◌, ◌++◌, ℕ, zero, suc, ltb, eqb, length, drop}
-use Rattle.moment.specs.Said.{Said, gives, refuses}
+use Rattle.std.specs.Prelude.{Bool, cond, ◌&&◌, List, [], ◌∷◌, ◌++◌, ℕ, zero, suc, ltb, eqb, length, drop}
+use Rattle.refusal.specs.Said.{Said, gives, refuses}
 use Rattle.table.specs.Pair.{as_data, deleted, slots_of, state_of, busy_of, set_word}
 use Rattle.table.specs.Rules.{all_ones, table_fine}
 use Rattle.tree.specs.Judge.{every, want, gone, reached_of, sound_of, unlocked, keys_at}
-use Rattle.tree.specs.declared.Checked.{Checked}
-use Rattle.tree.specs.declared.Checked.TheVariants as checked
-use Rattle.tree.specs.declared.Listed.{Listed}
-use Rattle.tree.specs.declared.Listed.TheVariants as listed
-use Rattle.tree.specs.declared.FirstFrame.{FirstFrame}
-use Rattle.tree.specs.declared.FirstFrame.TheVariants as frame
 
 -- 1, then what is asked of any table that is not refused 1
 abbrev pub fine_then : {A : Type 0} → List ℕ → Said A → Said A
@@ -21,21 +15,12 @@ abbrev pub sound_then : {A : Type 0} → List ℕ → Said A → Said A
 sound_then ws a = cond (sound_of ws) a (refuses 6)
 
 -- Check: the table is sound or not
-abbrev pub checked_says : Checked → Said Bool
-checked_says checked.Sound = gives true
-checked_says checked.Unsound = gives false
-checked_says (checked.Refused n) = refuses n
-
 unfoldable pub check_says : List ℕ → Said Bool
 check_says ws = fine_then ws (gives (sound_of ws))
 
 -- List: keys of the set from a low to a high bound, both included, smallest first
 unfoldable pub keys_of : List ℕ → ℕ → ℕ → List ℕ
 keys_of ws low high = keys_at ws (reached_of ws (want as_data as_data low high))
-
-abbrev pub listed_says : Listed → Said ℕ
-listed_says (listed.Count n) = gives n
-listed_says (listed.Refused n) = refuses n
 
 -- how many they are; 11 for more keys than the list buffer holds
 unfoldable pub fits : ℕ → List ℕ → Said ℕ
@@ -68,10 +53,6 @@ unfoldable pub list_number : List ℕ → ℕ → ℕ → List ℕ → ℕ
 list_number ws low high o = number_of (list_says ws low high (length o))
 
 -- First frame: the smallest key at or above a given number, which is the head of the list from there up; 13 for none
-abbrev pub frame_says : FirstFrame → Said ℕ
-frame_says (frame.Key k) = gives k
-frame_says (frame.Refused n) = refuses n
-
 unfoldable pub head_of : List ℕ → Said ℕ
 head_of [] = refuses 13
 head_of (k ∷ ks) = gives k

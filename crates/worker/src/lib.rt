@@ -2,19 +2,19 @@
 // and come to an end; each promises the protocol's definition, refusals included.
 #![tactic(auto)]
 
-ghost use Rattle.std.specs.Prelude.{◌≡◌, true, cond, eqb, ◌≢◌};
-ghost use Rattle.table.specs.Rules.{reply_says};
+ghost use Rattle.std.specs.Prelude.{◌≡◌, true, Ok};
+ghost use Rattle.refusal.specs.Said.{said, judged};
 ghost use Rattle.protocol.specs.Walk.{visit};
 ghost use Rattle.protocol.specs.Says.{answer_says};
 ghost use Rattle.protocol.specs.Step.{step_of, idle_worker};
 ghost use Rattle.protocol.specs.Calls.{idle, judge_start, start_of, judge_busy, judge_withdraw, withdraw_of};
 ghost use Rattle.acting.specs.Moves.{moved_of, step_move};
-ghost use Rattle.worker.specs.Moving.{left_by, ends, walk_fine, walk_to};
+ghost use Rattle.worker.specs.Moving.{left_by, walk_fine, walk_to};
 ghost use Rattle.protocol.specs.declared.Work.TheVariants.{Busy};
 
 use acting::Moved;
 use protocol::{Answer, Kind, Phase, Replied, Stepped, Work, Worker};
-use table::Reply;
+use refusal::Refusal;
 
 pub mod seats;
 
@@ -30,18 +30,19 @@ pub fn idle_worker() -> Worker
 }
 
 // The seat is given up where the work is over.
-pub fn leave_by(words: &mut [u64], m: Moved)
+#[tactic(auto, unfolding(crate::specs::Moving::left_by))]
+pub fn leave_by(words: &mut [u64], m: Result<Moved, Refusal>)
     ensures { words.new ≡ left_by m words.old }
 {
     match m {
-        Moved::Over(_) => seats::leave_seat(words),
-        _ => {}
+        Ok(Moved::Over(_)) => seats::leave_seat(words),
+        Ok(Moved::On | Moved::To(_)) | Err(_) => {}
     }
 }
 
 // One step, reported and not put into a record: for a caller that keeps its records in a form of its own. The seat is given
 // up where the work is over.
-pub fn move_on(words: &mut [u64], work: Work, key: u64, phase: Phase) -> Moved
+pub fn move_on(words: &mut [u64], work: Work, key: u64, phase: Phase) -> Result<Moved, Refusal>
     ensures { (result ≡ (step_move words.old work key phase).said) × (words.new ≡ left_by result (step_move words.old work key phase).words) }
 {
     let m = acting::step_on(words, work, key, phase);
@@ -53,80 +54,60 @@ pub fn move_on(words: &mut [u64], work: Work, key: u64, phase: Phase) -> Moved
 pub fn step(words: &mut [u64], w: Worker) -> Stepped
     ensures { (answer_says result.answer ≡ (step_of words.old w).says) × (result.worker ≡ (step_of words.old w).worker) × (words.new ≡ (step_of words.old w).words) }
 {
-    let work = w.work;
-    let key = w.key;
-    let phase = w.phase;
-    let m = move_on(words, work, key, phase);
-    match m {
-        Moved::On => Stepped {
-            answer: Answer::Going,
+    match move_on(words, w.work, w.key, w.phase) {
+        Ok(Moved::On) => Stepped {
+            answer: Ok(Answer::Going),
             worker: Worker {
-                work,
-                key,
-                phase: plan::with_done(phase, plan::done_of(phase) + 1),
+                phase: plan::with_done(w.phase, plan::done_of(w.phase) + 1),
+                ..w
             },
         },
-        Moved::To(p) => Stepped {
-            answer: Answer::Going,
-            worker: Worker {
-                work,
-                key,
-                phase: p,
-            },
+        Ok(Moved::To(phase)) => Stepped {
+            answer: Ok(Answer::Going),
+            worker: Worker { phase, ..w },
         },
-        Moved::Over(a) => Stepped {
-            answer: a,
+        Ok(Moved::Over(a)) => Stepped {
+            answer: Ok(a),
             worker: idle_worker(),
         },
-        Moved::Stays(n) => Stepped {
-            answer: Answer::Refused(n),
+        Err(e) => Stepped {
+            answer: Err(e),
             worker: w,
         },
     }
 }
 
-// What `next_slot` returns for a walk that ends where it stands: no link holds this number.
-pub const ENDS: u64 = table::widths::LINKS;
-
-fn or_ends(c: u64) -> u64
-    ensures { result ≡ cond (eqb c 0) ends c }
-{
-    if c == 0 { ENDS } else { c }
-}
-
-// The slot that a walk goes on to, or ENDS.
-pub fn walk_to(words: &[u64], key: u64, at: u64) -> u64
+// The slot that a walk goes on to; None where it ends: on the slot of its key, or at nothing.
+#[tactic(auto, unfolding(crate::specs::Moving::walk_to))]
+pub fn walk_to(words: &[u64], key: u64, at: u64) -> Option<u64>
     ensures { result ≡ walk_to words.now key at }
 {
     let k = table::key(words, at);
     if k == key {
-        return ENDS;
+        return None;
     }
-    or_ends(table::link(words, at, key < k))
+    let next = table::link(words, at, key < k);
+    if next == 0 { None } else { Some(next) }
 }
 
-// The slot that a busy walk goes on to, or ENDS, where the quick tests find that rules 1 and 6 let it step. Else 0, which says
-// nothing: the caller asks `walk_fine`. The root has no test of its own: rule 1 has judged it, and its key is above every legal
-// one. For a caller that keeps its records in a form of its own: a walk that goes on, which most steps are, needs no more.
-pub fn next_slot(words: &[u64], key: u64, at: u64, prev: u64, before: u64) -> u64
-    ensures { result ≢ 0 → (walk_fine words.now key at prev before ≡ true) × (result ≡ walk_to words.now key at) }
+// True only where rules 1 and 6 let a busy walk step, by the quick tests: else `walk_fine` says it. The root has no test of its
+// own: rule 1 has judged it. For a caller that keeps its records in a form of its own: a walk that goes on, which most steps
+// are, needs no more than this and `walk_to`.
+#[tactic(auto, using(crate::proofs::WalkLaws::quick_fine, crate::proofs::WalkLaws::at_root_lem))]
+pub fn walk_quick(words: &[u64], key: u64, at: u64, prev: u64, before: u64) -> bool
+    ensures { result ≡ true → walk_fine words.now key at prev before ≡ true }
 {
     if !table::table_quick(words) {
-        return 0;
+        return false;
     }
     if !plan::walk_quick(words, key, at, prev, before) {
-        return 0;
+        return false;
     }
-    if at == 0 {
-        return or_ends(table::link(words, 0, true));
-    }
-    if !table::pair_quick(words, at) {
-        return 0;
-    }
-    walk_to(words, key, at)
+    (at == 0) || table::pair_quick(words, at)
 }
 
 // Do rules 1 and 6 let a busy walk step?
+#[tactic(auto, unfolding(crate::specs::Moving::walk_fine))]
 pub fn walk_fine(words: &[u64], key: u64, at: u64, prev: u64, before: u64) -> bool
     ensures { result ≡ walk_fine words.now key at prev before }
 {
@@ -150,10 +131,10 @@ pub fn visit_on(
     side: bool,
     up: bool,
 ) -> Moved
-    ensures { (result ≡ moved_of (visit words.old kind key at prev before side up)) × (words.new ≡ left_by result words.old) }
+    ensures { (result ≡ moved_of (visit words.old kind key at prev before side up)) × (words.new ≡ left_by (Ok result) words.old) }
 {
     let m = acting::visited(words, kind, key, at, prev, before, side, up);
-    leave_by(words, m);
+    leave_by(words, Ok(m));
     m
 }
 
@@ -162,103 +143,99 @@ pub fn visit_on(
 fn is_idle(work: Work) -> bool
     ensures { result ≡ idle work }
 {
-    match work {
-        Work::Idle => true,
-        Work::Busy(_) => false,
-    }
+    matches!(work, Work::Idle)
 }
 
-// 1, 2, 3, 4, or 0.
-fn judge_start(words: &[u64], work: Work, key: u64) -> u64
-    ensures { result ≡ judge_start words.now work key }
+// Refused with 1, 2, 3 or 4, or not.
+#[tactic(auto, unfolding(protocol::specs::Calls::judge_start))]
+fn judge_start(words: &[u64], work: Work, key: u64) -> Result<(), Refusal>
+    ensures { judged result ≡ judge_start words.now work key }
 {
     if !table::table_fine(words) {
-        return 1;
+        return Err(Refusal::Table);
     }
     if !is_idle(work) {
-        return 2;
+        return Err(Refusal::State);
     }
     if !moment::legal(key) {
-        return 3;
+        return Err(Refusal::Range);
     }
-    if 16 <= table::busy(words) {
-        return 4;
+    if table::widths::MOST_BUSY <= table::busy(words) {
+        return Err(Refusal::Busy);
     }
-    0
+    Ok(())
 }
 
 // Begins a work on a key: it takes a seat and stands at the root.
+#[tactic(auto, unfolding(protocol::specs::Calls::start_of))]
 pub fn start(words: &mut [u64], w: Worker, kind: Kind, key: u64) -> Replied
-    ensures { (reply_says result.reply ≡ (start_of words.old w kind key).says) × (result.worker ≡ (start_of words.old w kind key).worker) × (words.new ≡ (start_of words.old w kind key).words) }
+    ensures { (said result.reply ≡ (start_of words.old w kind key).says) × (result.worker ≡ (start_of words.old w kind key).worker) × (words.new ≡ (start_of words.old w kind key).words) }
 {
-    let work = w.work;
-    let j = judge_start(words, work, key);
-    if j == 0 {
-        seats::take_seat(words);
+    if let Err(e) = judge_start(words, w.work, key) {
         return Replied {
-            reply: Reply::Done,
-            worker: Worker {
-                work: Work::Busy(kind),
-                key,
-                phase: plan::at_root(),
-            },
+            reply: Err(e),
+            worker: w,
         };
     }
+    seats::take_seat(words);
     Replied {
-        reply: Reply::Refusal(j),
-        worker: w,
+        reply: Ok(()),
+        worker: Worker {
+            work: Work::Busy(kind),
+            key,
+            phase: plan::at_root(),
+        },
     }
 }
 
-// 6, 7, or 0.
-fn judge_busy(words: &[u64], kind: Kind, key: u64, phase: Phase) -> u64
-    ensures { result ≡ judge_busy words.now (Busy kind) key phase }
+// Refused with 6 or 7, or not.
+#[tactic(auto, unfolding(protocol::specs::Calls::judge_busy))]
+fn judge_busy(words: &[u64], kind: Kind, key: u64, phase: Phase) -> Result<(), Refusal>
+    ensures { judged result ≡ judge_busy words.now (Busy kind) key phase }
 {
     if !plan::record_fine(words, kind, key, phase) {
-        return 6;
+        return Err(Refusal::Damaged);
     }
     let done = plan::done_of(phase);
     if !locks::all_held(words, phase, done) {
-        return 6;
+        return Err(Refusal::Damaged);
     }
     if plan::has_stored(phase, done) {
-        return 7;
+        return Err(Refusal::Stored);
     }
-    0
+    Ok(())
 }
 
-// 1, 2, 6, 7, or 0.
-fn judge_withdraw(words: &[u64], work: Work, key: u64, phase: Phase) -> u64
-    ensures { result ≡ judge_withdraw words.now work key phase }
+// Refused with 1, 2, 6 or 7, or not.
+#[tactic(auto, unfolding(protocol::specs::Calls::judge_withdraw, protocol::specs::Calls::judge_busy))]
+fn judge_withdraw(words: &[u64], work: Work, key: u64, phase: Phase) -> Result<(), Refusal>
+    ensures { judged result ≡ judge_withdraw words.now work key phase }
 {
     if !table::table_fine(words) {
-        return 1;
+        return Err(Refusal::Table);
     }
     match work {
-        Work::Idle => 2,
+        Work::Idle => Err(Refusal::State),
         Work::Busy(kind) => judge_busy(words, kind, key, phase),
     }
 }
 
 // Gives up locks and seat of a work that has not stored yet.
+#[tactic(auto, unfolding(protocol::specs::Calls::withdraw_of))]
 pub fn withdraw(words: &mut [u64], w: Worker) -> Replied
-    ensures { (reply_says result.reply ≡ (withdraw_of words.old w).says) × (result.worker ≡ (withdraw_of words.old w).worker) × (words.new ≡ (withdraw_of words.old w).words) }
+    ensures { (said result.reply ≡ (withdraw_of words.old w).says) × (result.worker ≡ (withdraw_of words.old w).worker) × (words.new ≡ (withdraw_of words.old w).words) }
 {
-    let work = w.work;
-    let key = w.key;
-    let phase = w.phase;
-    let j = judge_withdraw(words, work, key, phase);
-    if j == 0 {
-        let done = plan::done_of(phase);
-        locks::release_all(words, phase, done);
-        seats::leave_seat(words);
+    if let Err(e) = judge_withdraw(words, w.work, w.key, w.phase) {
         return Replied {
-            reply: Reply::Done,
-            worker: idle_worker(),
+            reply: Err(e),
+            worker: w,
         };
     }
+    let done = plan::done_of(w.phase);
+    locks::release_all(words, w.phase, done);
+    seats::leave_seat(words);
     Replied {
-        reply: Reply::Refusal(j),
-        worker: w,
+        reply: Ok(()),
+        worker: idle_worker(),
     }
 }

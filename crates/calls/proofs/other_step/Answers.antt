@@ -4,7 +4,6 @@ use mathlib.Core.List.{List}
 use Prim.Native.Nat.{ℕ}
 use native.Mathlib.Omega.{arith}
 use borrow.Author.Rules.{rules}
-use borrow.Author.Tests.{not-true}
 use Rattle.records.specs.Records.{is_walk}
 use Rattle.records.proofs.Walks.{walk_length}
 use Rattle.calls.proofs.WalkCalls.{walk_one, walk_call}
@@ -15,7 +14,9 @@ walks : (s : List ℕ) (b : Bool) → b ≡ is_walk s → b ≡ true → is_walk
 walks s b e t = sym e ∙ t
 
 pub returns-then-not-table_fine : goal.returns-then-not-table_fine
-returns-then-not-table_fine c = walk_one _ _ (walks _ _ c.is_walk.ensures c.if-not-is_walk.false) (sym c.table_fine.ensures ∙ not-true c.table_fine.result c.if-not-table_fine.true-raw)
+returns-then-not-table_fine c =
+    let w = walk_one _ _ (walks _ _ c.is_walk.ensures c.if-not-is_walk.false) (sym c.table_fine.ensures ∙ c.if-not-table_fine.true) in
+    (c.number.ensures ∙ w.0, w.1, w.2)
 
 pub bounds-lent-1 : goal.bounds-lent-1
 bounds-lent-1 c = omega (arith, walk_length _ (walks _ _ c.is_walk.ensures c.if-not-is_walk.false))
@@ -29,7 +30,7 @@ bounds-lent-4 c = omega (arith, walk_length _ (walks _ _ c.is_walk.ensures c.if-
 pub bounds-lent-6 : goal.bounds-lent-6
 bounds-lent-6 c = omega (arith, walk_length _ (walks _ _ c.is_walk.ensures c.if-not-is_walk.false))
 
-pub returns : goal.returns
-returns c =
+pub returns-in-Some : goal.returns-in-Some
+returns-in-Some c =
     let p = rw c.key.ensures at c.walk_on.ensures in
-    walk_call _ _ _ (walks _ _ c.is_walk.ensures c.if-not-is_walk.false) (sym c.walk_fine.ensures ∙ search rules) c.walk_to-next.ensures c.if-next-eq-ENDS.false p
+    walk_call _ _ _ (walks _ _ c.is_walk.ensures c.if-not-is_walk.false) (sym c.walk_fine.ensures ∙ search rules) (sym c.in-Some.is ∙ c.walk_to.ensures) p

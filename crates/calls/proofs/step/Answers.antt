@@ -3,7 +3,6 @@ use mathlib.Core.Bool.{Bool, true}
 use mathlib.Core.List.{List}
 use Prim.Native.Nat.{ℕ}
 use native.Mathlib.Omega.{arith}
-use borrow.Author.Rules.{rules}
 use Rattle.records.specs.Records.{is_walk}
 use Rattle.records.proofs.Walks.{walk_length}
 use Rattle.calls.proofs.WalkCalls.{walk_call}
@@ -27,6 +26,5 @@ bounds-lent-6 c = omega (arith, walk_length _ (walks _ _ c.is_walk.ensures c.if-
 
 pub returns : goal.returns
 returns c =
-    let n = c.next_slot-next.ensures (search rules) in
     let p = rw c.key.ensures at c.walk_on.ensures in
-    walk_call _ _ _ (walks _ _ c.is_walk.ensures c.if-not-is_walk.false) n.0 n.1 c.if-next-eq-ENDS.false p
+    walk_call _ _ _ (walks _ _ c.is_walk.ensures c.if-not-is_walk.false) (c.walk_quick.ensures c.if-not-walk_quick.false) (sym c.in-Some.is ∙ c.walk_to.ensures) p

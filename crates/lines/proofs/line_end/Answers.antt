@@ -1,14 +1,17 @@
-use mathlib.Core.Path.{sym, ◌∙◌}
+use mathlib.Core.Path.{refl}
+use Prim.Native.Nat.{ℕ}
 use native.Mathlib.Omega.{arith}
-use Rattle.lines.proofs.Bytes.{end_past, end_out}
+use lib.Dec.{eqb}
+use borrow.Author.Rules.{rules}
+use borrow.Author.Tests.{tests}
+use Rattle.std.proofs.lemmas.Iterator.{YieldsList-from_slice}
+use Rattle.std.proofs.lemmas.Iterator.Search.{position_from_yields_List}
+use Rattle.lines.proofs.Bytes.{end_found}
 use Rattle.lines.proofs.line_end.Goals as goal
-
-pub loop-i-preserved : goal.loop-i-preserved
-loop-i-preserved c =
-    let l = c.loop-i in
-    (omega arith, λ h. omega arith, l.invariant.2 ∙ end_past _ l.i (omega arith) (λ e. omega arith))
 
 pub returns : goal.returns
 returns c =
-    let l = c.loop-i in
-    (sym (l.invariant.2 ∙ end_out _ l.i (omega arith)), l.invariant.0, l.invariant.1)
+    let found =
+    position_from_yields_List (λ (b : ℕ). eqb b 10) _ _ c.position.result c.position.ensures.ran
+    (YieldsList-from_slice {s = c.iter.result} _ c.iter.ensures.rest) (λ x b q k. search (rules, tests)) in
+    end_found c.args.s.now _ c.args.at _ _ (omega arith) refl found c.unwrap_or.ensures

@@ -8,7 +8,7 @@ use mathlib.Core.List.{List}
 use mathlib.Core.Logic.{◌↔◌, ◌≢◌}
 use Prim.Native.Nat.{ℕ, suc, ◌+◌, ◌/◌, ◌≤◌, ◌<◌}
 use lib.ListN.{length}
-use Rattle.moment.specs.Said.{gives}
+use Rattle.refusal.specs.Said.{gives}
 use Rattle.moment.specs.Key.{legal_of}
 use Rattle.table.specs.Pair.{free, deleted, state_f, slots_of, state_of}
 use Rattle.table.specs.Rules.{size_fine, fresh_words}

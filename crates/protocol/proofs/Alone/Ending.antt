@@ -8,6 +8,7 @@ use Prim.Native.Nat.{ℕ}
 use native.Mathlib.Omega.{arith}
 use native.Mathlib.Decide.{ℕ_discrete}
 use borrow.Author.Tests.{eq-eqb, ne_eqb}
+use Rattle.std.specs.Prelude.{Ok}
 use Rattle.moment.specs.Key.{legal_of}
 use Rattle.table.specs.Pair.{as_data, routing, deleted, key_of, state_of, link_of}
 use Rattle.tree.specs.Reach.{tab_of, top, kid, Reached, InSet}
@@ -131,7 +132,7 @@ module _ {ws : List ℕ} (c : Calm ws) (k : ℕ) (legal : legal_of k ≡ true) w
         z : y ≢ 0
         z = not_root e
 
-        remove_steps : step_of us (busy Remove k (Walk y p q d u)) ≡ settled (busy Remove k (Walk y p q d u)) (removing (link_of us y true) (link_of us y false) y p q d u) us
+        remove_steps : step_of us (busy Remove k (Walk y p q d u)) ≡ settled (busy Remove k (Walk y p q d u)) (Ok (removing (link_of us y true) (link_of us y false) y p q d u)) us
         unfolding visit found
         remove_steps = visits (ready c) Remove k legal y p q d u w came ∙ rw (eq-eqb (key_of us y) k e, eq-eqb (state_of us y) as_data s)
 

@@ -13,7 +13,7 @@ use Rattle.moment.specs.Key.{legal_of}
 use Rattle.table.specs.Pair.{free, as_data, routing, deleted, lock_f, slots_of, key_of, state_of, set_state}
 use Rattle.table.specs.declared.Which.TheVariants.{State, Edge}
 use Rattle.tree.specs.Reach.{Tab, tab_of, Reached, Has, InSet}
-use Rattle.tree.specs.Walk.{next, Way}
+use Rattle.tree.specs.Walk.{Way}
 use Rattle.tree.proofs.Paths.{way_reached, unique_key}
 use Rattle.protocol.specs.Plan.{write_state, plan}
 use Rattle.protocol.specs.Record.{roles}

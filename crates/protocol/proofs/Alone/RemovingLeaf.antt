@@ -9,6 +9,7 @@ use native.Mathlib.Decide.{ℕ_discrete}
 use native.Mathlib.Numerals.{add-one}
 use lib.ListN.{get_or}
 use borrow.Author.Tests.{eq-eqb, ne_eqb, lt-ltb}
+use Rattle.std.specs.Prelude.{Ok}
 use Rattle.moment.specs.Key.{legal_of}
 use Rattle.table.specs.Pair.{free, as_data, routing, deleted, state_f, lock_f, slots_of, key_of, state_of, link_of, set_state, set_link}
 use Rattle.table.specs.declared.Which.TheVariants.{Edge}
@@ -225,7 +226,7 @@ module _ {ws : List ℕ} (c : Calm ws) (k : ℕ) (legal : legal_of k ≡ true) w
                 ne_eqb p q a.2,
               )
 
-      looks : Reached (tab_of us) p → step_of us (busy Remove k (Leaf y p d q u)) ≡ settled (busy Remove k (Leaf y p d q u)) (look us y p d q u) us
+      looks : Reached (tab_of us) p → step_of us (busy Remove k (Leaf y p d q u)) ≡ settled (busy Remove k (Leaf y p d q u)) (Ok (look us y p d q u)) us
       unfolding action_at plan reads_fine act_step
       looks rp =
           step_acts us Remove k (Leaf y p d q u) (Look y p d q u) (tame_table (ready c).tame)

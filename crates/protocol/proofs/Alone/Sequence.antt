@@ -9,7 +9,7 @@ use native.Mathlib.Decide.{ℕ_discrete}
 use lib.Dec.{eqb}
 use lib.ListN.{length}
 use borrow.Author.Tests.{eq-eqb, ne_eqb}
-use Rattle.moment.specs.Said.{Said, gives, refuses}
+use Rattle.refusal.specs.Said.{Said, gives, refuses}
 use Rattle.table.specs.Pair.{deleted, state_f, lock_f, busy_f, state_of, lock_of, busy_of}
 use Rattle.table.specs.Rules.{size_fine, table_fine, fresh_words}
 use Rattle.table.specs.declared.Which.{Which}

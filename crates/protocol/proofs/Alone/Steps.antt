@@ -7,7 +7,7 @@ use mathlib.Core.Logic.{◌≢◌}
 use Prim.Native.Nat.{ℕ, suc, ◌≤◌}
 use native.Mathlib.Omega.{arith}
 use borrow.Author.Tests.{ne_eqb}
-use Rattle.moment.specs.Said.{gives}
+use Rattle.refusal.specs.Said.{gives}
 use Rattle.moment.specs.Key.{legal_of}
 use Rattle.table.specs.Pair.{slots_of, busy_of}
 use Rattle.table.specs.Rules.{table_fine}

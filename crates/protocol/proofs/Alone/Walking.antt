@@ -9,6 +9,7 @@ use native.Mathlib.Omega.{arith}
 use native.Mathlib.Decide.{ℕ_discrete}
 use lib.Dec.{eqb}
 use borrow.Author.Tests.{eq-eqb, ne_eqb, lt-ltb}
+use Rattle.std.specs.Prelude.{Ok}
 use Rattle.moment.specs.Calendar.{moment_exists, date_exists}
 use Rattle.moment.specs.Key.{legal_of, in_range, moment_of, fields_of}
 use Rattle.moment.proofs.Packing.{legal_is}
@@ -130,7 +131,7 @@ module _ {us : List ℕ} (g : Ready us) where
   module _ (kind : Kind) (k : ℕ) (legal : legal_of k ≡ true) where
     -- a visit is not refused, and changes no word
     pub visits : (at prev before : ℕ) (side up : Bool) → Way A k at → Came A at prev before side up
-        → step_of us (busy kind k (Walk at prev before side up)) ≡ settled (busy kind k (Walk at prev before side up)) (visit us kind k at prev before side up) us
+        → step_of us (busy kind k (Walk at prev before side up)) ≡ settled (busy kind k (Walk at prev before side up)) (Ok (visit us kind k at prev before side up)) us
     unfolding action_at plan reads_fine act_step
     visits at prev before side up w c =
         step_acts us kind k (Walk at prev before side up) (Visit at prev before side up) (tame_table g.tame)

@@ -1,17 +1,17 @@
 -- The shape of the table (A1 to A5) outlives each kind of store, and what each does to the set. Assumes nothing.
 use mathlib.Core.Path.{◌≡◌, refl, sym, ap, ap₂, ◌∙◌}
-use mathlib.Core.Bool.{Bool, true, false, not, cond, true≢false}
+use mathlib.Core.Bool.{Bool, false, cond, true≢false}
 use mathlib.Core.Logic.{◌⊎◌, inl, inr, ⊎_elim, ◌≢◌}
 use Prim.Native.Nat.{ℕ, suc, ◌≤◌, ◌<◌}
 use native.Mathlib.Omega.{arith}
 use native.Mathlib.Decide.{ℕ_discrete}
 use lib.Dec.{ltb, eqb}
-use borrow.Author.Tests.{ltb-true, ltb-false, lt-ltb, le-ltb, eq-eqb, ne_eqb}
+use borrow.Author.Tests.{lt-ltb, eq-eqb, ne_eqb}
 use Rattle.tree.specs.Reach.{Tab, Reached, Has}
 use Rattle.tree.specs.Walk.{dir, Way, Edge}
 use Rattle.tree.proofs.Paths.{before, way_reached}
 use Rattle.protocol.proofs.Paths.Shape.{Live, Shape, reached_some, unique_parent, unique_key, absent}
-use Rattle.protocol.proofs.Paths.Stores.{Spot, spot, Still, Stated, Bypass, Append, back, still_on, still_reached, keep_on, gain_on, g_reached, v_reached, lost, stay_reached, live_out, not_new, new_some, p_old, kept_on, new_on, kept_reached, f_reached, new_reached}
+use Rattle.protocol.proofs.Paths.Stores.{Spot, spot, Stated, Bypass, Append, back, still_on, still_reached, keep_on, g_reached, v_reached, lost, stay_reached, live_out, not_new, new_some, p_old, kept_on, kept_reached, f_reached, new_reached}
 
 -- an edge seen from the table after the store
 pub move_edge : {A B : Tab} {p : ℕ} {d : Bool} {y : ℕ} → B.key y ≡ A.key y → B.key p ≡ A.key p → (Way A (A.key y) p → Way B (A.key y) p) → Edge A p d y → Edge B p d y

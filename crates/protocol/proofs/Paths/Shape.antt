@@ -1,8 +1,8 @@
 -- THE SHAPE OF A GOOD TABLE, in the path form: what is linked is found by its own key, ranks rise along links (so no walk goes
 -- round), every data and routing slot is reached, routing slots have two children. And the laws of walks, of such a table.
 -- Assumes nothing.
-use mathlib.Core.Path.{◌≡◌, refl, sym, ap, ◌∙◌}
-use mathlib.Core.Bool.{Bool, true, false}
+use mathlib.Core.Path.{◌≡◌, refl}
+use mathlib.Core.Bool.{Bool, false}
 use mathlib.Core.Logic.{◌⊎◌, inl, inr, ⊎_elim, ◌≢◌}
 use Prim.Native.Nat.{ℕ, ◌≤◌, ◌<◌}
 use native.Mathlib.Omega.{arith}

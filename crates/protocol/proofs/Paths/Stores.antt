@@ -1,6 +1,6 @@
 -- The kinds of store as pointwise facts, and what each does to chains and to what is reached. Assumes nothing.
 use mathlib.Core.Path.{◌≡◌, refl, sym, ap, ap₂, ◌∙◌}
-use mathlib.Core.Bool.{Bool, true, false, not, Bool-discrete}
+use mathlib.Core.Bool.{Bool, Bool-discrete}
 use mathlib.Core.Logic.{◌⊎◌, inl, inr, ⊎_elim, ◌≢◌}
 use Prim.Native.Nat.{ℕ, ◌≤◌, ◌<◌}
 use native.Mathlib.Omega.{arith}

@@ -4,13 +4,12 @@
 use mathlib.Core.Path.{◌≡◌, refl, sym, ap, ◌∙◌}
 use mathlib.Core.Bool.{Bool, true, false, true≢false, false≢true}
 use mathlib.Core.List.{List}
-use mathlib.Core.Logic.{◌≢◌}
 use Prim.Native.Nat.{ℕ, ◌≤◌, ◌<◌}
 use lib.Dec.{ltb}
 use lib.ListN.{length, set, get_or-eq_default}
 use lib.Seq.{set-get_or}
 use borrow.Author.Tests.{ltb-true, ltb-false, eqb-true}
-use Rattle.moment.specs.Said.{Said, gives, refuses}
+use Rattle.refusal.specs.Said.{Said, gives, refuses}
 use Rattle.moment.proofs.Tests.{by_cases}
 use Rattle.tree.specs.Answers.{sweep_says, sweep_words}
 use Rattle.tree.proofs.Sweeping.{AfterSweep, sweep_done}

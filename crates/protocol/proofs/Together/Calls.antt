@@ -8,7 +8,7 @@ use Prim.Native.Nat.{ℕ, zero, suc, ◌+◌, ◌-◌, ◌≤◌, ◌<◌}
 use native.Mathlib.Omega.{arith}
 use lib.ListN.{length, get_or, length-map}
 use borrow.Author.Tests.{eqb-false, not-true}
-use Rattle.moment.specs.Said.{gives}
+use Rattle.refusal.specs.Said.{gives}
 use Rattle.moment.specs.Key.{legal_of, in_range, fields_of}
 use Rattle.moment.proofs.Packing.{legal_is}
 use Rattle.moment.proofs.Tests.{tests}
@@ -31,9 +31,12 @@ use Rattle.protocol.specs.declared.Work.TheVariants.{Idle, Busy}
 use Rattle.protocol.specs.declared.Worker.{Worker}
 use Rattle.protocol.specs.declared.Phase.{Phase}
 use Rattle.protocol.specs.declared.Phase.TheVariants.{Walk, OnRouting, New, Two, One, Leaf, UnderData, UnderRouting}
-use Rattle.protocol.specs.declared.Answer.TheVariants.{Going, Yes, No, Full, Refused}
+use Rattle.protocol.specs.declared.Answer.TheVariants.{Going, Yes, No, Full}
 use Rattle.protocol.specs.declared.Outcome.{Outcome}
-use Rattle.protocol.specs.declared.Outcome.TheVariants.{Goes, Ends, Refuses}
+use Rattle.protocol.specs.declared.Outcome.TheVariants.{Goes, Ends}
+use Rattle.std.specs.Prelude.{Result, Ok, Err}
+use Rattle.refusal.specs.declared.Refusal.{Refusal}
+use Rattle.refusal.specs.Said.{number}
 use Rattle.protocol.proofs.PlanLaws.{record_roles}
 use Rattle.protocol.proofs.StepLaws.{step_ends}
 use Rattle.protocol.proofs.CallLaws.{start_ends, withdraw_ends}
@@ -189,22 +192,21 @@ module _ {ws : List ℕ} {rs : List Worker} {O : ℕ → ℕ → Type 0} {T : �
         legal = λ l kind' f. absurd (idle_busy f);
       }
 
-  settle_is : (kind : Kind) → w.work ≡ Busy kind → busy_of ws ≢ 0 → (o : Outcome) (vs : List ℕ)
+  settle_is : (kind : Kind) → w.work ≡ Busy kind → busy_of ws ≢ 0 → (o : Result Outcome Refusal) (vs : List ℕ)
       → Acts ws kind w.key (view w.phase) o vs → StepIs ws w (settled w o vs)
   unfolding settled
-  settle_is kind e b (Goes p) vs (m, k) = moving going refl (record {
+  settle_is kind e b (Ok (Goes p)) vs (m, k) = moving going refl (record {
     move = rw e m;
     clean = k.clean;
     seats = rw e (ap (λ (n : ℕ). n + 1) k.busy);
     most = omega (arith, k.busy, g.most);
     legal = λ l. l;
   })
-  settle_is kind e b (Ends Going) vs x = absurd x
-  settle_is kind e b (Ends Yes) vs (m, k) = moving says.yes refl (ended kind e b (said says.yes) vs m k)
-  settle_is kind e b (Ends No) vs (m, k) = moving says.no refl (ended kind e b (said says.no) vs m k)
-  settle_is kind e b (Ends Full) vs (m, k) = moving full refl (ended kind e b (said full) vs m k)
-  settle_is kind e b (Ends (Refused n)) vs x = absurd x
-  settle_is kind e b (Refuses n) vs q = refusing n (ap (λ (us : List ℕ). refused {A = Verdict} n w us) q)
+  settle_is kind e b (Ok (Ends Going)) vs x = absurd x
+  settle_is kind e b (Ok (Ends Yes)) vs (m, k) = moving says.yes refl (ended kind e b (said says.yes) vs m k)
+  settle_is kind e b (Ok (Ends No)) vs (m, k) = moving says.no refl (ended kind e b (said says.no) vs m k)
+  settle_is kind e b (Ok (Ends Full)) vs (m, k) = moving full refl (ended kind e b (said full) vs m k)
+  settle_is kind e b (Err f) vs q = refusing (number f) (ap (λ (us : List ℕ). refused {A = Verdict} (number f) w us) q)
 
   busy_some : (kind : Kind) (key : ℕ) (p : Phase) → record_fine ws kind key p ≡ true → busy_of ws ≢ 0
   unfolding record_fine

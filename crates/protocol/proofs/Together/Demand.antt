@@ -11,7 +11,7 @@ use native.Mathlib.Omega.{arith}
 use native.Mathlib.Decide.{ℕ_discrete}
 use lib.ListN.{length, length-map}
 use borrow.Author.Tests.{lt-ltb}
-use Rattle.moment.specs.Said.{gives}
+use Rattle.refusal.specs.Said.{gives}
 use Rattle.table.specs.Rules.{size_fine, table_fine}
 use Rattle.tree.specs.Reach.{InSet}
 use Rattle.tree.specs.Sound.{Sound}

@@ -11,7 +11,7 @@ use Rattle.moment.specs.Key.{moment_of, in_range, fields_of, legal_of}
 use Rattle.table.specs.Free.{lowest_from, lowest_slot, is_free}
 use Rattle.table.specs.Pair.{word_of, set_word, field_of, set_field, zero_pair, key_of}
 use Rattle.table.specs.Rules.{lock_fine, bits_fine, pair_fine, root_fine, size_fine, table_fine, fresh_words}
-use Rattle.moment.specs.Said.{Said, gives, refuses}
+use Rattle.refusal.specs.Said.{Said, gives, refuses}
 use Rattle.protocol.specs.Says as says
 use Rattle.protocol.specs.Says.{Verdict, going, full}
 use Rattle.protocol.specs.Plan.{plan, action_at}

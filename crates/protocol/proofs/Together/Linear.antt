@@ -12,7 +12,7 @@ use native.Mathlib.Decide.{ℕ_discrete}
 use lib.Dec.{ltb}
 use lib.ListN.{length}
 use borrow.Author.Tests.{ltb-true, ltb-false}
-use Rattle.moment.specs.Said.{Said, gives, refuses}
+use Rattle.refusal.specs.Said.{Said, gives, refuses}
 use Rattle.table.specs.Rules.{size_fine}
 use Rattle.protocol.specs.Says as says
 use Rattle.protocol.specs.Says.{Verdict, going, full}

@@ -6,7 +6,7 @@ use mathlib.Core.Bool.{Bool, true, false, not}
 use mathlib.Core.List.{List, [], ◌∷◌}
 use mathlib.Core.Logic.{◌↔◌, ◌⊎◌, inl, inr, ⊎_elim, ◌≢◌}
 use Prim.Native.Nat.{ℕ, suc}
-use Rattle.moment.specs.Said.{gives}
+use Rattle.refusal.specs.Said.{gives}
 use Rattle.tree.specs.Reach.{InSet}
 use Rattle.protocol.specs.Says as says
 use Rattle.protocol.specs.Says.{Verdict, going, full}

@@ -11,7 +11,7 @@ use native.Mathlib.Decide.{ℕ_discrete}
 use lib.ListN.{length}
 use lib.Seq.{get_or-set_same}
 use borrow.Author.Tests.{lt-ltb}
-use Rattle.moment.specs.Said.{Said, gives, refuses}
+use Rattle.refusal.specs.Said.{Said, gives, refuses}
 use Rattle.protocol.specs.Says as says
 use Rattle.protocol.specs.Says.{Verdict, going, full}
 use Rattle.protocol.specs.Step.{Call, idle_worker, step_of}

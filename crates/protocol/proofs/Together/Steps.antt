@@ -26,9 +26,11 @@ use Rattle.protocol.specs.declared.Links.{Links}
 use Rattle.protocol.specs.declared.Links.TheVariants.{Any, Is, Neither, Both}
 use Rattle.protocol.specs.declared.Phase.{Phase}
 use Rattle.protocol.specs.declared.Phase.TheVariants.{New}
-use Rattle.protocol.specs.declared.Answer.TheVariants.{Going, Yes, No, Full, Refused}
+use Rattle.protocol.specs.declared.Answer.TheVariants.{Going, Yes, No, Full}
 use Rattle.protocol.specs.declared.Outcome.{Outcome}
-use Rattle.protocol.specs.declared.Outcome.TheVariants.{Goes, Ends, Refuses}
+use Rattle.protocol.specs.declared.Outcome.TheVariants.{Goes, Ends}
+use Rattle.std.specs.Prelude.{Result, Ok, Err}
+use Rattle.refusal.specs.declared.Refusal.{Refusal}
 use Rattle.protocol.proofs.Ends.{give_up_ends, lock_ends, take_ends, removing_ends, lookup_ends, insert_ends, remove_ends, look_ends}
 use Rattle.protocol.proofs.HeldLaws.{given_only, given_up_only}
 use Rattle.protocol.proofs.StoreLaws.{Joins, mark_only, link_only, taken_joins, zero_field}
@@ -54,14 +56,13 @@ abbrev pub MoveTo : List ℕ → Doing → List ℕ → Doing → Answer → Typ
 MoveTo ws u vs w o = Move (tab_of ws) (lock_of ws) u (tab_of vs) (lock_of vs) w o
 
 -- what an action of a worker in stage u comes to
-abbrev pub Acts : List ℕ → Kind → ℕ → Stage → Outcome → List ℕ → Type 0
-Acts ws j k u (Goes q) vs = MoveTo ws (busy j k u) vs (busy j k (view q)) (said going) × Kept ws vs
-Acts ws j k u (Ends Going) vs = ⊥
-Acts ws j k u (Ends Yes) vs = MoveTo ws (busy j k u) vs idle (said says.yes) × Kept ws vs
-Acts ws j k u (Ends No) vs = MoveTo ws (busy j k u) vs idle (said says.no) × Kept ws vs
-Acts ws j k u (Ends Full) vs = MoveTo ws (busy j k u) vs idle (said full) × Kept ws vs
-Acts ws j k u (Ends (Refused n)) vs = ⊥
-Acts ws j k u (Refuses n) vs = vs ≡ ws
+abbrev pub Acts : List ℕ → Kind → ℕ → Stage → Result Outcome Refusal → List ℕ → Type 0
+Acts ws j k u (Ok (Goes q)) vs = MoveTo ws (busy j k u) vs (busy j k (view q)) (said going) × Kept ws vs
+Acts ws j k u (Ok (Ends Going)) vs = ⊥
+Acts ws j k u (Ok (Ends Yes)) vs = MoveTo ws (busy j k u) vs idle (said says.yes) × Kept ws vs
+Acts ws j k u (Ok (Ends No)) vs = MoveTo ws (busy j k u) vs idle (said says.no) × Kept ws vs
+Acts ws j k u (Ok (Ends Full)) vs = MoveTo ws (busy j k u) vs idle (said full) × Kept ws vs
+Acts ws j k u (Err e) vs = vs ≡ ws
 
 links_fit_lem : (ws : List ℕ) (slot : ℕ) (links : Links) → LinksAre ws slot links → LinksFit (tab_of ws) slot links
 links_fit_lem ws slot Any e = e
@@ -80,29 +81,29 @@ module _ (ws : List ℕ) {rho : ℕ → ℕ} (h : Shape (tab_of ws) rho) (fine :
   is_routing : (x : ℕ) → state_of ws x ≢ 0 → state_of ws x ≢ 1 → state_of ws x ≢ 3 → state_of ws x ≡ 2
   is_routing x a b c = omega (arith, h.small x)
 
-  lookup_acts : (k at prev before : ℕ) (side up : Bool) → Acts ws Lookup k (walk at prev before side) (visit ws Lookup k at prev before side up) ws
+  lookup_acts : (k at prev before : ℕ) (side up : Bool) → Acts ws Lookup k (walk at prev before side) (Ok (visit ws Lookup k at prev before side up)) ws
   lookup_acts k at prev before side up =
-      lookup_ends (λ o. Acts ws Lookup k (walk at prev before side) o ws) ws k at prev before side up
+      lookup_ends (λ o. Acts ws Lookup k (walk at prev before side) (Ok o) ws) ws k at prev before side up
       (λ e s. (ends (lock_of ws) (look_yes e s) none_held, same))
       (λ e s. (ends (lock_of ws) (look_no (inl (e, s))) none_held, same))
       (λ e l. (ends (lock_of ws) (look_no (inr ((λ z. e (sym z)), l))) none_held, same))
       (λ e l. (quietly (go_on _ (λ z. e (sym z)) refl l), same))
 
   insert_acts : (k at prev before : ℕ) (side up : Bool) → state_of ws at ≢ 0
-      → Acts ws Insert k (walk at prev before side) (visit ws Insert k at prev before side up) ws
+      → Acts ws Insert k (walk at prev before side) (Ok (visit ws Insert k at prev before side up)) ws
   insert_acts k at prev before side up n =
-      insert_ends (λ o. Acts ws Insert k (walk at prev before side) o ws) ws k at prev before side up
+      insert_ends (λ o. Acts ws Insert k (walk at prev before side) (Ok o) ws) ws k at prev before side up
       (λ e s. (ends (lock_of ws) (ins_no e s) none_held, same))
       (λ e s. (again (lock_of ws) (ins_gone e s) none_held, same))
       (λ e s d. (quietly (ins_routing e (is_routing at n s d)), same))
       (λ e l. (quietly (ins_none (λ z. e (sym z)) l), same))
       (λ e l. (quietly (go_on _ (λ z. e (sym z)) refl l), same))
 
-  remove_acts : (k at prev before : ℕ) (side up : Bool) → Acts ws Remove k (walk at prev before side) (visit ws Remove k at prev before side up) ws
+  remove_acts : (k at prev before : ℕ) (side up : Bool) → Acts ws Remove k (walk at prev before side) (Ok (visit ws Remove k at prev before side up)) ws
   remove_acts k at prev before side up =
-      remove_ends (λ o. Acts ws Remove k (walk at prev before side) o ws) ws k at prev before side up
+      remove_ends (λ o. Acts ws Remove k (walk at prev before side) (Ok o) ws) ws k at prev before side up
       (λ e s. (ends (lock_of ws) (rem_no (inl (e, s))) none_held, same))
-      (λ e s. removing_ends (λ o. Acts ws Remove k (walk at prev before side) o ws) (link_of ws at true) (link_of ws at false) at prev before side up
+      (λ e s. removing_ends (λ o. Acts ws Remove k (walk at prev before side) (Ok o) ws) (link_of ws at true) (link_of ws at false) at prev before side up
       (λ l r. (quietly (rem_leaf e s), same))
       (λ l r. (quietly (rem_one false (link_of ws at false) e s refl r), same))
       (λ l r. (quietly (rem_one true (link_of ws at true) e s refl l), same))
@@ -111,16 +112,16 @@ module _ (ws : List ℕ) {rho : ℕ → ℕ} (h : Shape (tab_of ws) rho) (fine :
       (λ e l. (quietly (go_on _ (λ z. e (sym z)) refl l), same))
 
   pub visit_acts : (j : Kind) (k at prev before : ℕ) (side up : Bool) → state_of ws at ≢ 0
-      → Acts ws j k (walk at prev before side) (visit ws j k at prev before side up) ws
+      → Acts ws j k (walk at prev before side) (Ok (visit ws j k at prev before side up)) ws
   visit_acts Lookup k at prev before side up n = lookup_acts k at prev before side up
   visit_acts Insert k at prev before side up n = insert_acts k at prev before side up n
   visit_acts Remove k at prev before side up n = remove_acts k at prev before side up
 
   -- THE LEAF'S LOOK AT PREVIOUS
   pub look_acts : (k this prev before : ℕ) (side up : Bool) → state_of ws prev ≢ 0
-      → Acts ws Remove k (stages.look this prev before side) (look ws this prev side before up) ws
+      → Acts ws Remove k (stages.look this prev before side) (Ok (look ws this prev side before up)) ws
   look_acts k this prev before side up n =
-      look_ends (λ o. Acts ws Remove k (stages.look this prev before side) o ws) ws this prev side before up
+      look_ends (λ o. Acts ws Remove k (stages.look this prev before side) (Ok o) ws) ws this prev side before up
       (λ s. (again (lock_of ws) (look_gone s) none_held, same))
       (λ s. (quietly (look_data s), same))
       (λ d s l. (again (lock_of ws) (look_none (not side) (is_routing prev n s d) l) none_held, same))
@@ -183,7 +184,7 @@ module _ (ws : List ℕ) {rho : ℕ → ℕ} (h : Shape (tab_of ws) rho) (fine :
   -- STORES
   pub mark_acts : (j : Kind) (k : ℕ) (u : Stage) (next : Phase) (slot to : ℕ) → pair_fine ws slot ≡ true → to < 4 → to ≢ 0
       → (SetState (tab_of ws) (tab_of (set_state ws slot to)) slot to → Put (tab_of ws) (tab_of (set_state ws slot to)) k u (view next))
-      → Acts ws j k u (Goes next) (set_state ws slot to)
+      → Acts ws j k u (Ok (Goes next)) (set_state ws slot to)
   mark_acts j k u next slot to r l n put =
       let vs = set_state ws slot to in
       let o = mark_only ws slot to r l in (
@@ -193,7 +194,7 @@ module _ (ws : List ℕ) {rho : ℕ → ℕ} (h : Shape (tab_of ws) rho) (fine :
 
   pub link_acts : (j : Kind) (k : ℕ) (u : Stage) (next : Phase) (slot : ℕ) (side : Bool) (to : ℕ) → pair_fine ws slot ≡ true → to < slots_of ws
       → (SetLink (tab_of ws) (tab_of (set_link ws slot side to)) slot side to → Put (tab_of ws) (tab_of (set_link ws slot side to)) k u (view next))
-      → Acts ws j k u (Goes next) (set_link ws slot side to)
+      → Acts ws j k u (Ok (Goes next)) (set_link ws slot side to)
   link_acts j k u next slot side to r l put =
       let vs = set_link ws slot side to in
       let o = link_only ws slot side to fine r l in (
@@ -217,7 +218,7 @@ module _ (ws : List ℕ) {rho : ℕ → ℕ} (h : Shape (tab_of ws) rho) (fine :
       vs : List ℕ
       vs = set_link (taken ws f k) prev side f
 
-      took : f ≢ 0 → zero_pair ws f ≡ true → Acts ws j k (lock (New prev side 0) 2) (Goes next) vs
+      took : f ≢ 0 → zero_pair ws f ≡ true → Acts ws j k (lock (New prev side 0) 2) (Ok (Goes next)) vs
       took m z =
           let o = taken_joins ws k prev side fine r m z in
           let free = zero_field ws f state_f z in

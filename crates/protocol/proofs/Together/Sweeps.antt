@@ -8,7 +8,7 @@ use Prim.Native.Nat.{ℕ, ◌/◌, ◌<◌}
 use native.Mathlib.Omega.{arith}
 use native.Mathlib.Decide.{ℕ_discrete}
 use lib.ListN.{get_or}
-use Rattle.moment.specs.Said.{refuses}
+use Rattle.refusal.specs.Said.{refuses}
 use Rattle.moment.specs.Key.{legal_of}
 use Rattle.table.specs.Pair.{state_f, link_f, lock_f, busy_f, zeros_f, slots_of, word_of, key_of, field_of, state_of, lock_of, busy_of}
 use Rattle.table.specs.declared.Which.{Which}

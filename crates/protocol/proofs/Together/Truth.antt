@@ -4,13 +4,13 @@
 use mathlib.Core.Path.{◌≡◌, refl, sym, ap, ◌∙◌}
 use mathlib.Core.Bool.{Bool, true, false, true≢false, false≢true}
 use mathlib.Core.List.{List}
-use mathlib.Core.Logic.{◌⊎◌, ⊎_elim, ◌≢◌}
+use mathlib.Core.Logic.{⊎_elim, ◌≢◌}
 use Prim.Native.Nat.{ℕ, ◌<◌}
 use native.Mathlib.Omega.{arith}
 use native.Mathlib.Decide.{ℕ_discrete}
 use lib.ListN.{length, get_or, length-map}
 use borrow.Author.Tests.{eqb-false}
-use Rattle.moment.specs.Said.{Said, gives}
+use Rattle.refusal.specs.Said.{Said, gives}
 use Rattle.table.specs.Free.{is_free}
 use Rattle.table.specs.Pair.{state_of}
 use Rattle.tree.specs.Reach.{Tab, tab_of}

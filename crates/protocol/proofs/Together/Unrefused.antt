@@ -9,7 +9,7 @@ use Prim.Native.Nat.{ℕ, zero, suc, ◌<◌}
 use native.Mathlib.Omega.{arith}
 use lib.ListN.{length, get_or, length-map}
 use borrow.Author.Tests.{ne_eqb, lt-leb}
-use Rattle.moment.specs.Said.{refuses}
+use Rattle.refusal.specs.Said.{refuses}
 use Rattle.table.specs.Pair.{lock_f, slots_of, state_of, lock_of, busy_of, zero_pair}
 use Rattle.table.specs.Rules.{table_fine}
 use Rattle.table.specs.declared.Which.{Which}

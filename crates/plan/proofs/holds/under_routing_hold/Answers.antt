@@ -1,22 +1,6 @@
-use mathlib.Core.Path.{◌∙◌}
-use Prim.Native.Nat.{◌<◌}
-use native.Mathlib.Omega.{arith}
-use Rattle.protocol.specs.Plan.{plan, action_at}
-use Rattle.plan.specs.Holds.{hold_in}
+use Rattle.std.proofs.Common.{◌<◌, ◌∙◌, arith}
 use Rattle.plan.proofs.HoldLaws.{first_two}
 use Rattle.plan.proofs.holds.under_routing_hold.Goals as goal
-
-pub returns-in-2 : goal.returns-in-2
-unfolding hold_in action_at plan
-returns-in-2 c other done h = rw c.in-2.is c.edge.ensures
-
-pub returns-in-3 : goal.returns-in-3
-unfolding hold_in action_at plan
-returns-in-3 c other done h = rw c.in-3.is c.edge-in-3.ensures
-
-pub returns-in-4 : goal.returns-in-4
-unfolding hold_in action_at plan
-returns-in-4 c other done h = rw c.in-4.is c.state.ensures
 
 pub returns-in_default : goal.returns-in_default
 returns-in_default c other done h =

@@ -7,4 +7,4 @@ returns-then-begun-ne-FINE c =
 
 pub returns : goal.returns
 returns c =
-    whole_begins c.args.words.now c.args.lent.now c.args.kind c.args.key c.start-begun.ensures c.if-begun-ne-FINE.false c.to_end-ended.ensures.0
+    whole_begins c.args.words.now c.args.lent.now c.args.kind c.args.key c.start-begun.ensures c.if-begun-ne-FINE.false c.to_end.ensures.0

@@ -1,9 +1,6 @@
-use Prim.Native.Nat.{◌+◌, ◌-◌}
+use Prim.Native.Nat.{◌+◌, ◌*◌}
 use Rattle.table.specs.Free.{Sought}
 use Rattle.table.proofs.free.lowest_free.Given as goal
 
-abbrev pub invariant-loop-at : goal.invariant-loop-at
-invariant-loop-at l = Sought l.t l.at
-
-abbrev pub decreases-loop-at : goal.decreases-loop-at
-decreases-loop-at l = l.n + 1 - l.at
+abbrev pub invariant-loop-slot : goal.invariant-loop-slot
+invariant-loop-slot l = Sought l.t (2 * l.slot + 1)

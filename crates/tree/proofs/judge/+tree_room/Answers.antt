@@ -1,16 +1,10 @@
 use Rattle.tree.specs.Places.{slot_room, tree_room}
-use Rattle.tree.proofs.Rooms.{slot_room_lem, room_none, room_fuel, room_stop, room_left, room_both}
+use Rattle.tree.proofs.Rooms.{slot_room_lem, room_stop, room_none, room_left, room_both}
 use Rattle.tree.proofs.judge.+tree_room.Goals.{then-l-ne0, else-l-ne0}
 use native.Mathlib.Omega.{arith}
 use mathlib.Core.Path.{◌≡◌, ◌∙◌}
 use Prim.Native.Nat.{◌-◌}
 use Rattle.tree.proofs.judge.+tree_room.Goals as goal
-
-pub returns-then-slot-eq0 : goal.returns-then-slot-eq0
-returns-then-slot-eq0 t c = room_none _ _ _ _ _ _ c.if-slot-eq0.true
-
-pub returns-then-fuel-eq0 : goal.returns-then-fuel-eq0
-returns-then-fuel-eq0 t c = room_fuel _ _ _ _ _ _ c.if-slot-eq0.false c.if-fuel-eq0.true
 
 -- the slot itself is judged by what is read of it
 pub returns-then-rest-eq0 : goal.returns-then-rest-eq0

@@ -4,19 +4,14 @@ use lib.ListN.{length}
 use mathlib.Core.Bool.{true}
 use mathlib.Core.List.{List}
 use mathlib.Core.Path.{◌≡◌}
-use Prim.Native.Nat.{ℕ, ◌+◌, ◌-◌, ◌≤◌}
+use Prim.Native.Nat.{ℕ, ◌+◌, ◌≤◌}
 use Rattle.tree.proofs.judge.is_sound.Given as goal
 
 -- the pairs of the first i slots are sound, and there is one more place than there are data and routing slots among them
-pub record Judged (words : List ℕ) (n room i : ℕ) : Type 0 where
-  pub begun : 1 ≤ i
-  pub within : i ≤ n
+pub record Judged (words : List ℕ) (room i : ℕ) : Type 0 where
   pub few : room ≤ i
   pub sound : every (pair_sound words) i ≡ true
   pub counted : room ≡ 1 + length (picked (live_of words) i)
 
 abbrev pub invariant-loop-i : goal.invariant-loop-i
-invariant-loop-i l = Judged l.words l.n l.room l.i
-
-abbrev pub decreases-loop-i : goal.decreases-loop-i
-decreases-loop-i l = l.n - l.i
+invariant-loop-i l = Judged l.words l.room l.i

@@ -1,7 +1,0 @@
-use mathlib.Core.Path.{refl}
-use Rattle.protocol.specs.Record.{roles}
-use Rattle.plan.proofs.roles.state_roles.Goals as goal
-
-pub returns : goal.returns
-unfolding roles
-returns c = refl

@@ -1,0 +1,5 @@
+pub mod Answers
+pub mod Fields
+pub mod Inverts
+pub mod Names
+pub mod Records

@@ -58,7 +58,7 @@ fn put_moved(lent: &mut [u64], work: Work, key: u64, m: Result<Moved, Refusal>) 
         }
         Ok(Moved::Over(answer)) => {
             records::put_idle(lent);
-            numbers::of_answer(Ok(answer))
+            numbers::of_answer(answer)
         }
         Err(e) => e.number(),
     }

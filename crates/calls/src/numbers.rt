@@ -16,15 +16,15 @@ pub const YES: u64 = 16;
 
 pub const NO: u64 = 17;
 
-pub fn of_answer(a: Result<Answer, Refusal>) -> u64
+pub fn of_answer(a: Answer) -> u64
     ensures { result ≡ verdict_number (answer_says a) }
 {
     match a {
-        Ok(Answer::Going) => FINE,
-        Ok(Answer::Yes) => YES,
-        Ok(Answer::No) => NO,
-        Ok(Answer::Full) => FULL,
-        Err(e) => e.number(),
+        Answer::Going => FINE,
+        Answer::Yes => YES,
+        Answer::No => NO,
+        Answer::Full => FULL,
+        Answer::Refused(e) => e.number(),
     }
 }
 

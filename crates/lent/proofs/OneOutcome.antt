@@ -22,7 +22,7 @@ pub start_one : (ws : List ℕ) (w : Worker) (kind : Kind) (key : ℕ) (a b : Re
     → Did (start_of ws w kind key) (said a) x us → Did (start_of ws w kind key) (said b) y vs → (a ≡ b) × (x ≡ y) × (us ≡ vs)
 start_one ws w kind key a b x y us vs p q = (said_one a b (p.0 ∙ sym q.0), p.1 ∙ sym q.1, p.2 ∙ sym q.2)
 
-pub step_one : (ws : List ℕ) (w : Worker) (a b : Result Answer Refusal) (x y : Worker) (us vs : List ℕ)
+pub step_one : (ws : List ℕ) (w : Worker) (a b : Answer) (x y : Worker) (us vs : List ℕ)
     → Did (step_of ws w) (answer_says a) x us → Did (step_of ws w) (answer_says b) y vs → (a ≡ b) × (x ≡ y) × (us ≡ vs)
 step_one ws w a b x y us vs p q = (answer_one a b (p.0 ∙ sym q.0), p.1 ∙ sym q.1, p.2 ∙ sym q.2)
 

@@ -21,7 +21,7 @@ pub fn start(words: &mut [u64], worker: &mut Worker, kind: Kind, key: u64) -> Re
 }
 
 // One step of a busy worker.
-pub fn step(words: &mut [u64], worker: &mut Worker) -> Result<Answer, Refusal>
+pub fn step(words: &mut [u64], worker: &mut Worker) -> Answer
     ensures { Did (step_of words.old worker.old) (answer_says result) worker.new words.new }
 {
     let stepped = worker::step(words, *worker);

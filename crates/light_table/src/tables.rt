@@ -42,7 +42,7 @@ pub fn two_slots<W: Write>(out: &mut W) -> io::Result<()> {
     tell(
         out,
         b"insert B: after walk and first lock 4000000040080000",
-        ran == Ok(Answer::Going) && words == [ROOT, 0x4000000040080000, 0, 0],
+        ran == Answer::Going && words == [ROOT, 0x4000000040080000, 0, 0],
     )?;
     let _ = table::fresh(&mut words);
     tell(

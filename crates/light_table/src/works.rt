@@ -5,23 +5,25 @@ use worker::idle_worker;
 
 // A worker's life: it starts, and makes one step a turn until its work ends, for at most so many turns.
 // Kept: `runs::by_value` makes the same steps in one call; README shows a worker's life by this function.
-pub fn run(words: &mut [u64], kind: Kind, key: u64, most: u64) -> Result<Answer, Refusal> {
+pub fn run(words: &mut [u64], kind: Kind, key: u64, most: u64) -> Answer {
     let mut worker = idle_worker();
-    lent::start(words, &mut worker, kind, key)?;
+    if let Err(why) = lent::start(words, &mut worker, kind, key) {
+        return Answer::Refused(why);
+    }
     for _ in 0..most {
-        let answer = lent::step(words, &mut worker)?;
+        let answer = lent::step(words, &mut worker);
         if answer != Answer::Going {
-            return Ok(answer);
+            return answer;
         }
         // here the event loop draws the screen and moves the other workers on
     }
-    Ok(Answer::Going)
+    Answer::Going
 }
 
 // Does a work end with this answer, after so many steps?
 pub fn ends(words: &mut [u64], kind: Kind, key: u64, answer: Answer, steps: u64) -> bool {
     let ran = runs::by_value::whole(words, idle_worker(), kind, key);
-    ran.answer == Ok(answer) && ran.steps == steps
+    ran.answer == answer && ran.steps == steps
 }
 
 // So many workers start: what the last of them is told.

@@ -5,16 +5,14 @@ use mathlib.Core.Bool.{Bool, true, false, false≢true}
 use mathlib.Core.List.{List}
 use Prim.Native.Nat.{ℕ}
 use Rattle.refusal.specs.Said.{Said, gives, refuses, said}
-use Rattle.std.specs.Prelude.{Result, Ok, Err}
-use Rattle.refusal.specs.declared.Refusal.{Refusal}
 use Rattle.refusal.proofs.SaidLaws.{why_of, why_of-number, said_one}
-use Rattle.protocol.specs.Says.{Verdict, going, yes, no, full, verdict_of, answer_says}
+use Rattle.protocol.specs.Says.{Verdict, going, yes, no, full, answer_says}
 use Rattle.protocol.specs.Step.{step_of}
 use Rattle.protocol.specs.Calls.{start_of, withdraw_of}
 use Rattle.protocol.specs.declared.Kind.{Kind}
 use Rattle.protocol.specs.declared.Worker.{Worker}
 use Rattle.protocol.specs.declared.Answer.{Answer}
-use Rattle.protocol.specs.declared.Answer.TheVariants.{Going, Yes, No, Full}
+use Rattle.protocol.specs.declared.Answer.TheVariants.{Going, Yes, No, Full, Refused}
 use Rattle.protocol.specs.declared.Stepped.{Stepped}
 use Rattle.protocol.specs.declared.Replied.{Replied}
 
@@ -36,27 +34,21 @@ given_or d (gives a) = a
 given_or d (refuses n) = d
 
 -- the answer that says it
-abbrev pub one_of : Verdict → Answer
-one_of going = Going
-one_of yes = Yes
-one_of no = No
-one_of full = Full
+abbrev pub answer_of : Said Verdict → Answer
+answer_of (gives going) = Going
+answer_of (gives yes) = Yes
+answer_of (gives no) = No
+answer_of (gives full) = Full
+answer_of (refuses n) = Refused (why_of n)
 
-pub one_of-verdict_of : (a : Answer) → one_of (verdict_of a) ≡ a
-one_of-verdict_of Going = refl
-one_of-verdict_of Yes = refl
-one_of-verdict_of No = refl
-one_of-verdict_of Full = refl
+pub answer_of_lem : (a : Answer) → answer_of (answer_says a) ≡ a
+answer_of_lem Going = refl
+answer_of_lem Yes = refl
+answer_of_lem No = refl
+answer_of_lem Full = refl
+answer_of_lem (Refused e) = ap Refused (why_of-number e)
 
-abbrev pub answer_of : Said Verdict → Result Answer Refusal
-answer_of (gives v) = Ok (one_of v)
-answer_of (refuses n) = Err (why_of n)
-
-pub answer_of_lem : (a : Result Answer Refusal) → answer_of (answer_says a) ≡ a
-answer_of_lem (Ok a) = ap Ok (one_of-verdict_of a)
-answer_of_lem (Err e) = ap Err (why_of-number e)
-
-pub answer_one : (a b : Result Answer Refusal) → answer_says a ≡ answer_says b → a ≡ b
+pub answer_one : (a b : Answer) → answer_says a ≡ answer_says b → a ≡ b
 answer_one a b e = sym (answer_of_lem a) ∙ ap answer_of e ∙ answer_of_lem b
 
 -- what a call promises of its result and of the words after it

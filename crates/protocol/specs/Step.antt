@@ -4,7 +4,7 @@ use Rattle.std.specs.Prelude.{Bool, true, false, cond, ◌&&◌, List, ℕ, ◌-
 use Rattle.refusal.specs.Said.{Said, gives, refuses, number}
 use Rattle.table.specs.Pair.{busy_of, set_state, set_link, set_busy}
 use Rattle.table.specs.Rules.{pair_fine, table_fine}
-use Rattle.protocol.specs.Says.{Verdict, going, verdict_of}
+use Rattle.protocol.specs.Says.{Verdict, going, answer_says}
 use Rattle.protocol.specs.Plan.{done_of, next_of, action_of, at_root}
 use Rattle.protocol.specs.Record.{record_fine}
 use Rattle.protocol.specs.Locks.{Did, did, stopped, give_up, lock_step}
@@ -82,7 +82,7 @@ leave ws = set_busy ws (busy_of ws - 1)
 -- Yes, No and Full end the work: the seat is given up, the record is idle
 unfoldable pub settled : Worker → Result Outcome Refusal → List ℕ → Call Verdict
 settled w (Ok (Goes p)) ws = record { says = gives going; worker = record { work = w.work; key = w.key; phase = p }; words = ws }
-settled w (Ok (Ends a)) ws = record { says = gives (verdict_of a); worker = idle_worker; words = leave ws }
+settled w (Ok (Ends a)) ws = record { says = answer_says a; worker = idle_worker; words = leave ws }
 settled w (Err e) ws = refused (number e) w ws
 
 unfoldable pub step_of : List ℕ → Worker → Call Verdict

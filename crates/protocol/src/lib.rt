@@ -109,13 +109,15 @@ pub enum Action {
     Beyond,
 }
 
-// What a step answers that is not refused.
+// What a step answers: the work goes on, it has ended with yes, no or Full, or the step is refused, with its number.
+// Kept: the specification names this form, one enum, for a step's answer alone; every other answer is a Result.
 #[derive(Clone, Copy, Debug, PartialEq, Eq, Hash)]
 pub enum Answer {
     Going,
     Yes,
     No,
     Full,
+    Refused(Refusal),
 }
 
 // What an action comes to that is not refused: the work goes on in a phase, or ends with an answer.
@@ -128,7 +130,7 @@ pub enum Outcome {
 // What a step gives back.
 #[derive(Clone, Copy, Debug, PartialEq, Eq, Hash)]
 pub struct Stepped {
-    pub answer: Result<Answer, Refusal>,
+    pub answer: Answer,
     pub worker: Worker,
 }
 

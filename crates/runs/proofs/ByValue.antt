@@ -14,30 +14,30 @@ use Rattle.protocol.specs.Calls.{start_of}
 use Rattle.runs.specs.Whole.{most_steps, Ran, goes_on, steps_of, rest_of, begun, whole_of}
 use Rattle.protocol.specs.declared.Kind.{Kind}
 use Rattle.protocol.specs.declared.Answer.{Answer}
-use Rattle.protocol.specs.declared.Answer.TheVariants.{Going}
+use Rattle.protocol.specs.declared.Answer.TheVariants.{Going, Refused}
 use Rattle.protocol.specs.declared.Worker.{Worker}
 use Rattle.runs.proofs.Whole.{Made, made_one, made_last, made_all}
 use Rattle.runs.specs.Running.{Comes}
 
 -- what `step` promises
-abbrev Stepped : List ℕ → Worker → Result Answer Refusal → Worker → List ℕ → Type 0
+abbrev Stepped : List ℕ → Worker → Answer → Worker → List ℕ → Type 0
 Stepped vs u a u' vs' = (answer_says a ≡ (step_of vs u).says) × (u' ≡ (step_of vs u).worker) × (vs' ≡ (step_of vs u).words)
 
 module _ {most : ℕ} {ws : List ℕ} {w : Worker} {made : ℕ} {vs : List ℕ} {u : Worker} (m : Made most ws w made vs u) where
-  pub one_more : (a : Result Answer Refusal) {u' : Worker} {vs' : List ℕ} → made < most → Stepped vs u a u' vs' → goes_on (answer_says a) ≡ true
+  pub one_more : (a : Answer) {u' : Worker} {vs' : List ℕ} → made < most → Stepped vs u a u' vs' → goes_on (answer_says a) ≡ true
       → Made most ws w (made + 1) vs' u'
   one_more a {u'} {vs'} l p g =
       let n = made_one m l (ap goes_on (sym p.0) ∙ g) in
       subst (λ (x : List ℕ). Made most ws w (made + 1) x u') (sym p.2)
       (subst (λ (x : Worker). Made most ws w (made + 1) (step_of vs u).words x) (sym p.1) n)
 
-  pub the_last : (a : Result Answer Refusal) {u' : Worker} {vs' : List ℕ} → made < most → Stepped vs u a u' vs' → goes_on (answer_says a) ≡ false
+  pub the_last : (a : Answer) {u' : Worker} {vs' : List ℕ} → made < most → Stepped vs u a u' vs' → goes_on (answer_says a) ≡ false
       → Comes (steps_of most ws w) a u' (made + 1) vs'
   the_last a l p g =
       let e = sym (made_last m l (ap goes_on (sym p.0) ∙ g)) in
       (p.0 ∙ ap (λ (r : Ran). r.call.says) e, p.1 ∙ ap (λ (r : Ran). r.call.worker) e, ap (λ (r : Ran). r.steps) e, p.2 ∙ ap (λ (r : Ran). r.call.words) e)
 
-  pub no_more : most ≤ made → Comes (steps_of most ws w) (Ok Going) u most vs
+  pub no_more : most ≤ made → Comes (steps_of most ws w) Going u most vs
   no_more l =
       let k : most ≡ made = omega (arith, l, m.within) in
       let e = sym (made_all m l) in
@@ -51,7 +51,7 @@ Started ws w kind key a u vs =
     (said a ≡ (start_of ws w kind key).says) × (u ≡ (start_of ws w kind key).worker) × (vs ≡ (start_of ws w kind key).words)
 
 module _ (ws : List ℕ) (w : Worker) (kind : Kind) (key : ℕ) (a : Result (Unit {0}) Refusal) {u : Worker} {vs : List ℕ} (p : Started ws w kind key a u vs) where
-  pub begun_done : (x : Unit {0}) → a ≡ Ok x → (n : ℕ) → n ≡ most_steps vs → (b : Result Answer Refusal) {u' : Worker} {m : ℕ} {vs' : List ℕ} → Comes (steps_of n vs u) b u' m vs'
+  pub begun_done : (x : Unit {0}) → a ≡ Ok x → (n : ℕ) → n ≡ most_steps vs → (b : Answer) {u' : Worker} {m : ℕ} {vs' : List ℕ} → Comes (steps_of n vs u) b u' m vs'
       → Comes (whole_of ws w kind key) b u' m vs'
   unfolding whole_of rest_of
   begun_done x d n q b {u'} {m} {vs'} t =
@@ -59,7 +59,7 @@ module _ (ws : List ℕ) (w : Worker) (kind : Kind) (key : ℕ) (a : Result (Uni
       ∙ ap (begun (start_of ws w kind key).words (start_of ws w kind key).worker) (sym (ap said d) ∙ p.0) in
       subst (λ (r : Ran). Comes r b u' m vs') e t
 
-  pub begun_refused : (e : Refusal) → a ≡ Err e → Comes (whole_of ws w kind key) (Err e) u 0 vs
+  pub begun_refused : (e : Refusal) → a ≡ Err e → Comes (whole_of ws w kind key) (Refused e) u 0 vs
   unfolding whole_of
   begun_refused f d =
       let n = number f in

@@ -4,8 +4,6 @@
 use mathlib.Core.Path.{◌≡◌, sym, ◌∙◌}
 use mathlib.Core.List.{List}
 use Prim.Native.Nat.{ℕ}
-use Rattle.std.specs.Prelude.{Result}
-use Rattle.refusal.specs.declared.Refusal.{Refusal}
 use Rattle.protocol.specs.declared.Answer.{Answer}
 use Rattle.protocol.specs.declared.Worker.{Worker}
 use Rattle.protocol.proofs.AnswerLaws.{answer_one}
@@ -17,7 +15,7 @@ pub most_steps_one : (ws : List ℕ) (a b : ℕ) → a ≡ most_steps ws → b �
 most_steps_one ws a b p q = p ∙ sym q
 
 -- `by_value::steps` and `by_value::whole`
-pub ran_one : (r : Ran) (a b : Result Answer Refusal) (u v : Worker) (m n : ℕ) (x y : List ℕ) → Comes r a u m x → Comes r b v n y
+pub ran_one : (r : Ran) (a b : Answer) (u v : Worker) (m n : ℕ) (x y : List ℕ) → Comes r a u m x → Comes r b v n y
     → (a ≡ b) × (u ≡ v) × (m ≡ n) × (x ≡ y)
 ran_one r a b u v m n x y p q =
     (answer_one a b (p.0 ∙ sym q.0), p.1 ∙ sym q.1, p.2 ∙ sym q.2, p.3 ∙ sym q.3)

@@ -5,13 +5,12 @@ ghost use Rattle.runs.specs.Whole.{most_steps, goes_on, steps_of, whole_of};
 ghost use Rattle.runs.specs.Running.{Comes};
 
 use protocol::{Answer, Kind, Worker};
-use refusal::Refusal;
 use worker::{start, step};
 
 // What steps came to: the last answer, the record after it, and how many steps were made.
 #[derive(Clone, Copy, Debug, PartialEq, Eq, Hash)]
 pub struct Ran {
-    pub answer: Result<Answer, Refusal>,
+    pub answer: Answer,
     pub worker: Worker,
     pub steps: u64,
 }
@@ -26,10 +25,10 @@ pub fn most_steps(words: &[u64]) -> u64
     table::slots(words) + BESIDES
 }
 
-fn goes_on(a: Result<Answer, Refusal>) -> bool
+fn goes_on(a: Answer) -> bool
     ensures { result ≡ goes_on (answer_says a) }
 {
-    matches!(a, Ok(Answer::Going))
+    matches!(a, Answer::Going)
 }
 
 // At most so many steps, until one answers something else than Going.
@@ -49,7 +48,7 @@ pub fn steps(words: &mut [u64], w: Worker, most: u64) -> Ran
         }
     }
     Ran {
-        answer: Ok(Answer::Going),
+        answer: Answer::Going,
         worker,
         steps: most,
     }
@@ -64,7 +63,7 @@ pub fn whole(words: &mut [u64], w: Worker, kind: Kind, key: u64) -> Ran
     match begun.reply {
         Ok(()) => steps(words, begun.worker, most_steps(words)),
         Err(e) => Ran {
-            answer: Err(e),
+            answer: Answer::Refused(e),
             worker: begun.worker,
             steps: 0,
         },

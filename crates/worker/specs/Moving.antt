@@ -7,7 +7,7 @@ use Rattle.refusal.specs.Said.{Said, gives, refuses, number}
 use Rattle.table.specs.Pair.{key_of, link_of}
 use Rattle.table.specs.Rules.{pair_fine, table_fine}
 use Rattle.protocol.specs.Record.{record_fine}
-use Rattle.protocol.specs.Says.{Verdict, going, verdict_of}
+use Rattle.protocol.specs.Says.{Verdict, going, answer_says}
 use Rattle.protocol.specs.Plan.{next_of}
 use Rattle.protocol.specs.Step.{idle_worker, leave}
 use Rattle.protocol.specs.declared.Kind.TheVariants.{Lookup}
@@ -27,7 +27,7 @@ left_by (Err e) ws = ws
 abbrev pub move_says : Result Moved Refusal → Said Verdict
 move_says (Ok On) = gives going
 move_says (Ok (To p)) = gives going
-move_says (Ok (Over a)) = gives (verdict_of a)
+move_says (Ok (Over a)) = answer_says a
 move_says (Err e) = refuses (number e)
 
 abbrev pub move_worker : Worker → Result Moved Refusal → Worker

@@ -56,22 +56,22 @@ pub fn step(words: &mut [u64], w: Worker) -> Stepped
 {
     match move_on(words, w.work, w.key, w.phase) {
         Ok(Moved::On) => Stepped {
-            answer: Ok(Answer::Going),
+            answer: Answer::Going,
             worker: Worker {
                 phase: plan::with_done(w.phase, plan::done_of(w.phase) + 1),
                 ..w
             },
         },
         Ok(Moved::To(phase)) => Stepped {
-            answer: Ok(Answer::Going),
+            answer: Answer::Going,
             worker: Worker { phase, ..w },
         },
         Ok(Moved::Over(a)) => Stepped {
-            answer: Ok(a),
+            answer: a,
             worker: idle_worker(),
         },
         Err(e) => Stepped {
-            answer: Err(e),
+            answer: Answer::Refused(e),
             worker: w,
         },
     }

@@ -31,7 +31,7 @@ use Rattle.protocol.specs.declared.Work.TheVariants.{Idle, Busy}
 use Rattle.protocol.specs.declared.Worker.{Worker}
 use Rattle.protocol.specs.declared.Phase.{Phase}
 use Rattle.protocol.specs.declared.Phase.TheVariants.{Walk, OnRouting, New, Two, One, Leaf, UnderData, UnderRouting}
-use Rattle.protocol.specs.declared.Answer.TheVariants.{Going, Yes, No, Full}
+use Rattle.protocol.specs.declared.Answer.TheVariants.{Going, Yes, No, Full, Refused}
 use Rattle.protocol.specs.declared.Outcome.{Outcome}
 use Rattle.protocol.specs.declared.Outcome.TheVariants.{Goes, Ends}
 use Rattle.std.specs.Prelude.{Result, Ok, Err}
@@ -206,6 +206,7 @@ module _ {ws : List ℕ} {rs : List Worker} {O : ℕ → ℕ → Type 0} {T : �
   settle_is kind e b (Ok (Ends Yes)) vs (m, k) = moving says.yes refl (ended kind e b (said says.yes) vs m k)
   settle_is kind e b (Ok (Ends No)) vs (m, k) = moving says.no refl (ended kind e b (said says.no) vs m k)
   settle_is kind e b (Ok (Ends Full)) vs (m, k) = moving full refl (ended kind e b (said full) vs m k)
+  settle_is kind e b (Ok (Ends (Refused n))) vs x = absurd x
   settle_is kind e b (Err f) vs q = refusing (number f) (ap (λ (us : List ℕ). refused {A = Verdict} (number f) w us) q)
 
   busy_some : (kind : Kind) (key : ℕ) (p : Phase) → record_fine ws kind key p ≡ true → busy_of ws ≢ 0

@@ -26,7 +26,7 @@ use Rattle.protocol.specs.declared.Links.{Links}
 use Rattle.protocol.specs.declared.Links.TheVariants.{Any, Is, Neither, Both}
 use Rattle.protocol.specs.declared.Phase.{Phase}
 use Rattle.protocol.specs.declared.Phase.TheVariants.{New}
-use Rattle.protocol.specs.declared.Answer.TheVariants.{Going, Yes, No, Full}
+use Rattle.protocol.specs.declared.Answer.TheVariants.{Going, Yes, No, Full, Refused}
 use Rattle.protocol.specs.declared.Outcome.{Outcome}
 use Rattle.protocol.specs.declared.Outcome.TheVariants.{Goes, Ends}
 use Rattle.std.specs.Prelude.{Result, Ok, Err}
@@ -62,6 +62,7 @@ Acts ws j k u (Ok (Ends Going)) vs = ⊥
 Acts ws j k u (Ok (Ends Yes)) vs = MoveTo ws (busy j k u) vs idle (said says.yes) × Kept ws vs
 Acts ws j k u (Ok (Ends No)) vs = MoveTo ws (busy j k u) vs idle (said says.no) × Kept ws vs
 Acts ws j k u (Ok (Ends Full)) vs = MoveTo ws (busy j k u) vs idle (said full) × Kept ws vs
+Acts ws j k u (Ok (Ends (Refused e))) vs = ⊥
 Acts ws j k u (Err e) vs = vs ≡ ws
 
 links_fit_lem : (ws : List ℕ) (slot : ℕ) (links : Links) → LinksAre ws slot links → LinksFit (tab_of ws) slot links

@@ -1,6 +1,6 @@
 -- What an action of the plan comes to by itself, whatever the phase. The walk's two actions are no part of it.
 -- Assumes nothing.
-use Rattle.std.specs.Prelude.{◌≡◌, Bool, true, cond, List, ◌≢◌, ℕ, eqb, Option, Some, Result, Ok, Err, IfSome}
+use Rattle.std.specs.Prelude.{◌≡◌, Bool, true, cond, List, ◌≢◌, ℕ, eqb, Option, Some, None, Result, Ok, Err, IfSome}
 use Rattle.refusal.specs.declared.Refusal.{Refusal}
 use Rattle.refusal.specs.declared.Refusal.TheVariants.{Damaged}
 use Rattle.table.specs.Pair.{set_state, set_link, zero_pair}
@@ -31,10 +31,10 @@ act_on ws key End = after (Ok (Finished Yes)) ws
 act_on ws key Beyond = after (Err Damaged) ws
 
 -- what a quick action promises: where it says what it came to, its pair was fine and it did; only one that is done changes a
--- word
+-- word; and the end of a plan is left to the caller
 abbrev pub DoneBy : List ℕ → ℕ → Action → Option Acted → List ℕ → Type 0
 DoneBy ws key a r ws' =
-    IfSome r (λ x. (reads_fine ws a ≡ true) × (act_on ws key a ≡ after (Ok x) ws')) × (r ≢ Some Done → ws' ≡ ws)
+    IfSome r (λ x. (reads_fine ws a ≡ true) × (act_on ws key a ≡ after (Ok x) ws')) × (r ≢ Some Done → ws' ≡ ws) × (a ≡ End → r ≡ None)
 
 -- of a new frame's slot alone
 abbrev pub FrameBy : List ℕ → ℕ → ℕ → Bool → Option Acted → List ℕ → Type 0

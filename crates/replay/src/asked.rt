@@ -82,12 +82,12 @@ fn read_act(name: &str, words: &mut Words<'_>, size: usize) -> Option<Act>
         "fresh" => Some(Act::Fresh),
         "poke" => Some(Act::Poke {
             place: below(size, words)?,
-            word: hexadecimal(words.next()?)?,
+            word: hexadecimal(words.next()?.as_bytes())?,
         }),
         "slot" => Some(Act::Slot(below(slots, words)? as u64)),
         "key" => Some(Act::Key {
             slot: below(slots, words)? as u64,
-            key: hexadecimal(words.next()?)?,
+            key: hexadecimal(words.next()?.as_bytes())?,
         }),
         "put" => {
             let slot = below(slots, words)? as u64;
@@ -99,11 +99,11 @@ fn read_act(name: &str, words: &mut Words<'_>, size: usize) -> Option<Act>
         "pair" => Some(Act::Pair(below(slots, words)? as u64)),
         "check" => Some(Act::Check),
         "list" => Some(Act::List {
-            low: hexadecimal(words.next()?)?,
-            high: hexadecimal(words.next()?)?,
+            low: hexadecimal(words.next()?.as_bytes())?,
+            high: hexadecimal(words.next()?.as_bytes())?,
             room: up_to(ROOM, words)?,
         }),
-        "first" => Some(Act::First(hexadecimal(words.next()?)?)),
+        "first" => Some(Act::First(hexadecimal(words.next()?.as_bytes())?)),
         "sweep" => Some(Act::Sweep),
         _ => None,
     }
@@ -113,7 +113,7 @@ fn read_deed(name: &str, words: &mut Words<'_>) -> Option<Deed> {
     match name {
         "start" => {
             let kind = words.next()?.parse().ok()?;
-            Some(Deed::Start(kind, hexadecimal(words.next()?)?))
+            Some(Deed::Start(kind, hexadecimal(words.next()?.as_bytes())?))
         }
         "step" => Some(Deed::Step),
         "withdraw" => Some(Deed::Withdraw),
@@ -129,7 +129,7 @@ fn read_deed(name: &str, words: &mut Words<'_>) -> Option<Deed> {
 fn up_to(most: usize, words: &mut Words<'_>) -> Option<usize>
     ensures { IfSome result (λ n. n ≤ most) }
 {
-    let n = decimal(words.next()?)? as usize;
+    let n = decimal(words.next()?.as_bytes())? as usize;
     if n <= most { Some(n) } else { None }
 }
 

@@ -2,7 +2,7 @@
 use super::asked::{Act, ROOM};
 use super::pairs;
 use abi::between;
-use script::answers::{self, Answer};
+use script::answers::{self, Answer, Sixteen};
 use std::io::{self, Write};
 
 // What is asked for is there, as `ask` promises.
@@ -16,8 +16,8 @@ pub fn carry_out<W: Write>(out: &mut W, table: &mut [u64], act: Act) -> io::Resu
             answers::done(out)
         }
         Act::Slot(slot) => {
-            let key = table::key(table, slot);
-            writeln!(out, "{key:016X} {:016X}", table::fields(table, slot))
+            let key = Sixteen(table::key(table, slot));
+            writeln!(out, "{key} {}", Sixteen(table::fields(table, slot)))
         }
         Act::Key { slot, key } => {
             table::set_key(table, slot, key);
@@ -48,7 +48,7 @@ fn check<W: Write>(out: &mut W, table: &[u64]) -> io::Result<()> {
 fn first<W: Write>(out: &mut W, table: &[u64], from: u64) -> io::Result<()> {
     let mut key = 0;
     match Answer::from(between::pannuqreik_first(table, from, &mut key)) {
-        Answer::Done => writeln!(out, "{key:016X}"),
+        Answer::Done => writeln!(out, "{}", Sixteen(key)),
         said => writeln!(out, "{said}"),
     }
 }
@@ -66,7 +66,7 @@ fn list<W: Write>(
         Answer::Done => {
             write!(out, "{count}")?;
             for key in keys.iter().take(count as usize) {
-                write!(out, " {key:016X}")?;
+                write!(out, " {}", Sixteen(*key))?;
             }
             writeln!(out)
         }

@@ -15,7 +15,7 @@ pub fn carry_out<W: Write>(
     match deed {
         Deed::Start(kind, key) => answers::reply(out, start(table, record, kind, key)),
         Deed::Step => {
-            answers::verdict(out, step(table, record), "going")?;
+            answers::verdict(out, step(table, record), b"going")?;
             writeln!(out)
         }
         Deed::Withdraw => answers::reply(
@@ -57,7 +57,7 @@ fn run<W: Write>(out: &mut W, table: &mut [u64], record: &mut [u64]) -> io::Resu
 
 // The last answer, and the number of calls.
 fn print_run<W: Write>(out: &mut W, said: Answer, calls: usize) -> io::Result<()> {
-    answers::verdict(out, said, "going")?;
+    answers::verdict(out, said, b"going")?;
     writeln!(out, " {calls}")
 }
 

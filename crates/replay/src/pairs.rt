@@ -1,4 +1,5 @@
 // The commands that speak of a slot by its key and its fields. Where a field lies is known to the crate `table` alone.
+use script::answers::Sixteen;
 use script::fields::Fields;
 use script::line::Words;
 use script::names::State;
@@ -66,9 +67,9 @@ pub fn read(i: u64, words: &mut Words<'_>) -> Option<Fields> {
 // Bits that should be zero are shown where one of them is not.
 pub fn show<W: Write>(out: &mut W, table: &[u64], i: u64) -> io::Result<()> {
     let fields = get(table, i);
-    write!(out, "{:016X} {fields}", table::key(table, i))?;
+    write!(out, "{} {fields}", Sixteen(table::key(table, i)))?;
     match other(table, i, &fields) {
         0 => writeln!(out),
-        rest => writeln!(out, " other {rest:016X}"),
+        rest => writeln!(out, " other {}", Sixteen(rest)),
     }
 }

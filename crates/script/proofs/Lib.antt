@@ -1,2 +1,4 @@
 pub mod NoteLaws
+pub mod NumeralText
+pub mod Places
 pub mod Sixteen

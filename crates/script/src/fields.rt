@@ -53,16 +53,16 @@ impl Fields {
     {
         let state = words.next()?.parse().ok()?;
         keyword(words, "links")?;
-        let left = decimal(words.next()?)?;
-        let right = decimal(words.next()?)?;
+        let left = decimal(words.next()?.as_bytes())?;
+        let right = decimal(words.next()?.as_bytes())?;
         keyword(words, "locks")?;
-        let own_lock = decimal(words.next()?)?;
-        let left_lock = decimal(words.next()?)?;
-        let right_lock = decimal(words.next()?)?;
+        let own_lock = decimal(words.next()?.as_bytes())?;
+        let left_lock = decimal(words.next()?.as_bytes())?;
+        let right_lock = decimal(words.next()?.as_bytes())?;
         let mut busy = None;
         if root {
             keyword(words, "busy")?;
-            busy = Some(decimal(words.next()?)?);
+            busy = Some(decimal(words.next()?.as_bytes())?);
         }
         Some(Fields {
             state,

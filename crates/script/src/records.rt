@@ -4,6 +4,7 @@ ghost use Rattle.std.specs.Prelude.{◌≡◌, Some, IfSome, OnSome};
 ghost use Rattle.script.specs.Inverts.{Inverts};
 ghost use Rattle.script.specs.Records.{notes_of};
 
+use super::answers::Sixteen;
 use super::line::{Words, decimal, hexadecimal};
 use super::names::{Phase, Side, Unknown, Work};
 use std::fmt;
@@ -160,7 +161,7 @@ impl fmt::Display for Record {
     ghost output = { λ r. Some (record_text r) };
 
     fn fmt<W: fmt::Write>(&self, f: &mut fmt::Formatter<W>) -> fmt::Result {
-        write!(f, "{} {:016X} {}", self.work, self.key, self.phase)?;
+        write!(f, "{} {} {}", self.work, Sixteen(self.key), self.phase)?;
         for note in notes(self.phase) {
             write!(f, " {}", Noted(self, *note))?;
         }
@@ -191,7 +192,7 @@ impl Record {
         ensures { IfSome result NotesNoMore }
     {
         let work = words.next()?.parse().ok()?;
-        let key = hexadecimal(words.next()?)?;
+        let key = hexadecimal(words.next()?.as_bytes())?;
         let phase = words.next()?.parse().ok()?;
         let mut found = Record {
             work,
@@ -210,14 +211,14 @@ impl Record {
         ensures kept { OnSome result (ChangesOnly self.old note self.new) }
     {
         match note {
-            Note::This => self.this = decimal(word)?,
-            Note::Previous => self.previous = decimal(word)?,
+            Note::This => self.this = decimal(word.as_bytes())?,
+            Note::Previous => self.previous = decimal(word.as_bytes())?,
             Note::Side => self.side = word.parse().ok()?,
-            Note::Before => self.before = decimal(word)?,
+            Note::Before => self.before = decimal(word.as_bytes())?,
             Note::Up => self.up = word.parse().ok()?,
-            Note::Child => self.child = decimal(word)?,
+            Note::Child => self.child = decimal(word.as_bytes())?,
             Note::ChildSide => self.child_side = word.parse().ok()?,
-            Note::Done => self.done = decimal(word)?,
+            Note::Done => self.done = decimal(word.as_bytes())?,
         }
         Some(())
     }

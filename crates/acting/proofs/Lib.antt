@@ -1,3 +1,4 @@
 pub mod ActLaws
+pub mod EndLaws
 pub mod MoveLaws
 pub mod OneOutcome

@@ -19,6 +19,7 @@ pub mod quick;
 mod walking;
 
 // What a step that is not refused comes to: the phase has one more action done, or is another; or the work is over, with an answer.
+// That answer is Yes, No or Full, and never a refusal (proofs/EndLaws.antt).
 #[derive(Clone, Copy, Debug, PartialEq, Eq, Hash)]
 pub enum Moved {
     On,
